@@ -1,0 +1,3 @@
+//! The lexer: from a text to its tokens.
+
+pub mod token;
