@@ -1,1 +1,2 @@
+mod Rest
 mod Table

@@ -1,4 +1,5 @@
 //! The lexer: from a text to its tokens.
 
 mod class;
+mod cursor;
 pub mod token;
