@@ -1,2 +1,3 @@
+mod Comments
 mod Rest
 mod Table

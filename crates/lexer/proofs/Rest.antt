@@ -2,7 +2,7 @@
 use Prim.Native.Nat.{ℕ, zero, suc, _+_, _<_, _≤_}
 use Rattle.lexer.specs.Cursor.{at-end, digit-met, digits, leads, next-len, peek, run}
 use Rattle.std.proofs.shelf.Lists.{drop-all, drop-more}
-use Rattle.std.specs.Options.{isSome}
+use Rattle.std.specs.Options.{isSome, valueOr}
 use Rattle.std.specs.declared.option.Option.the-variants.{Some, None}
 use Rattle.std.specs.shelf.Maps.{nth}
 use lib.Dec.{eqb}
@@ -40,6 +40,17 @@ pub peek-none : (xs : List ℕ) (n : ℕ) → None ≡ nth xs n → 0 ≡ peek n
 peek-none [] n e = refl
 peek-none (x ∷ xs) zero e = let z : _≡_ {A = ℕ} 0 1 = cc in absurd (omega arith)
 peek-none (x ∷ xs) (suc n) e = peek-none xs n e
+
+pub value-or-nth : (xs : List ℕ) (i : ℕ) → valueOr (nth xs i) 0 ≡ getD xs i 0
+value-or-nth [] i = refl
+value-or-nth (x ∷ xs) zero = refl
+value-or-nth (x ∷ xs) (suc i) = value-or-nth xs i
+
+-- a byte that is not 0 lies within
+pub within : (xs : List ℕ) (i b : ℕ) → getD xs i 0 ≡ suc b → i < length xs
+within [] i b e = absurd (omega arith)
+within (x ∷ xs) zero b e = omega arith
+within (x ∷ xs) (suc i) b e = let h = within xs i b e in omega arith
 
 at-end-front : (xs : List ℕ) (b : Bool) → isSome (nth xs 0) ≡ not b → b ≡ at-end xs
 at-end-front [] true e = refl

@@ -1,5 +1,6 @@
 -- What the cursor finds in the bytes that follow its place.
 use Prim.Native.Nat.{ℕ, _+_}
+use Rattle.lexer.specs.Class.{ident-cont, ident-start}
 use Rattle.lexer.specs.declared.cursor.Cursor.{Cursor}
 use denote.Ref.{now}
 use lib.Dec.{eqb}
@@ -31,6 +32,10 @@ run class (x ∷ xs) = cond (class x) (1 + run class xs) 0
 abbrev pub leads : (ℕ → Bool) → List ℕ → Bool
 leads class [] = false
 leads class (x ∷ xs) = class x
+
+-- an identifier at the front: a starting byte and those that go on with it, or nothing
+abbrev pub identifier : List ℕ → ℕ
+identifier xs = cond (leads ident-start xs) (run ident-cont xs) 0
 
 -- the digits at the front, with each underscore that a digit follows
 unfoldable pub digits : (ℕ → Bool) → List ℕ → ℕ

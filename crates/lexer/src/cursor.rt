@@ -2,16 +2,20 @@
 
 ghost use Prim.Native.Nat.{ℕ, _+_, _-_, _<_, _≤_};
 ghost use Rattle.lexer.specs.Class.{all-but};
-ghost use Rattle.lexer.specs.Cursor.{Moved, at-end, digit-met, digits, leads, next-len, peek, rest, run};
+ghost use Rattle.lexer.specs.Cursor.{Moved, at-end, digit-met, digits, identifier, leads, next-len, peek, rest, run};
 ghost use Rattle.std.specs.shelf.Maps.{nth};
 ghost use lib.Dec.{eqb};
-ghost use lib.ListN.{drop, length};
+ghost use lib.ListN.{drop, getD, length};
 ghost use mathlib.Core.Bool.{_&&_};
 ghost use mathlib.Core.Path.{_≡_};
 use crate::class::AllBut;
 use crate::class::AllButClass;
 use crate::class::Class;
 use crate::class::DigitClass;
+use crate::class::IdentCont;
+use crate::class::IdentContClass;
+use crate::class::IdentStart;
+use crate::class::IdentStartClass;
 use text::Text;
 
 /// A place in a text, and where the token that is being read began.
@@ -67,11 +71,54 @@ impl<'a, T: Text> Cursor<'a, T> {
         self.text.byte(place)
     }
 
+    /// Whether the next character belongs to the class.
+    pub(crate) fn next_in<C: Class>(&self, class: &C) -> bool
+        ensures { λ r. ⌜ r ≡ leads (C·Class .holds (now (class .entry))) (rest (T·Text .bytes) (now (self .entry))) ⌝ }
+    {
+        match self.text.byte(self.place) {
+            Some(byte) => class.has(byte),
+            None => false,
+        }
+    }
+
+    /// The character after the longest run of characters of the class.
+    pub(crate) fn char_after_run<C: Class>(&self, class: &C) -> char
+        ensures { λ r. ⌜ r ≡ peek (run (C·Class .holds (now (class .entry))) (rest (T·Text .bytes) (now (self .entry)))) (rest (T·Text .bytes) (now (self .entry))) ⌝ }
+    {
+        match self.text.byte(self.run_end(class)) {
+            Some(byte) => char::from(byte),
+            None => EOF_CHAR,
+        }
+    }
+
     /// Whether nothing follows.
     pub(crate) fn is_eof(&self) -> bool
         ensures { λ r. ⌜ r ≡ at-end (rest (T·Text .bytes) (now (self .entry))) ⌝ }
     {
         self.text.byte(self.place).is_none()
+    }
+
+    /// The text that it reads.
+    pub(crate) fn text(&self) -> &'a T
+        ensures { λ r. ⌜ r ≡ now (self .entry) .text ⌝ }
+    {
+        self.text
+    }
+
+    /// Goes on to a place.
+    pub(crate) fn move_to(&mut self, place: u32)
+        ensures text { λ _. ⌜ now (self .exit) .text ≡ now (self .entry) .text ⌝ }
+        ensures start { λ _. ⌜ now (self .exit) .start ≡ now (self .entry) .start ⌝ }
+        ensures place { λ _. ⌜ now (self .exit) .place ≡ place ⌝ }
+    {
+        self.place = place;
+    }
+
+    /// Where the cursor stands in the text.
+    pub(crate) fn place(&self) -> u32
+        ensures { λ r. ⌜ r ≡ now (self .entry) .place ⌝ }
+    {
+        self.place
     }
 
     /// How many bytes of the token have been eaten.
@@ -127,6 +174,15 @@ impl<'a, T: Text> Cursor<'a, T> {
         self.eat_while(&AllBut(first, second));
     }
 
+    /// Eats what follows of a junk identifier: a starting character and those that go on with it, or nothing.
+    pub(crate) fn eat_identifier(&mut self)
+        ensures { λ _. ⌜ Moved (now (self .entry)) (now (self .exit)) (identifier (rest (T·Text .bytes) (now (self .entry)))) ⌝ }
+    {
+        if self.next_in(&IdentStart) {
+            self.eat_while(&IdentCont);
+        }
+    }
+
     /// Eats the digits that follow, and says whether there are any.
     pub(crate) fn eat_digits<C: DigitClass>(&mut self) -> bool
         ensures met { λ r. ⌜ r ≡ digit-met (C·DigitClass .digit) (rest (T·Text .bytes) (now (self .entry))) ⌝ }
@@ -155,6 +211,13 @@ impl<'a, T: Text> Cursor<'a, T> {
         }
         (place, met)
     }
+}
+
+/// The byte at a place, or 0 past the end.
+pub(crate) fn byte_at<T: Text>(text: &T, place: u32) -> u8
+    ensures { λ r. ⌜ r ≡ getD (T·Text .bytes (now (text .entry))) place 0 ⌝ }
+{
+    text.byte(place).unwrap_or(0)
 }
 
 /// Whether the byte at the place is an underscore that a digit of the class follows.

@@ -1,5 +1,6 @@
 //! The lexer: from a text to its tokens.
 
 mod class;
+mod comment;
 mod cursor;
 pub mod token;
