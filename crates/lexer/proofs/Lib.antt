@@ -1,3 +1,5 @@
 mod Comments
+mod Moves
+mod Numbers
 mod Rest
 mod Table

@@ -3,4 +3,5 @@
 mod class;
 mod comment;
 mod cursor;
+mod number;
 pub mod token;
