@@ -1,3 +1,4 @@
 mod Comments
+mod Quotes
 mod Rest
 mod Table

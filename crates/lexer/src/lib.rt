@@ -3,4 +3,5 @@
 mod class;
 mod comment;
 mod cursor;
+mod quoted;
 pub mod token;
