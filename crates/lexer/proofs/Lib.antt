@@ -1,4 +1,5 @@
 mod Comments
 mod Quotes
+mod Moves
 mod Rest
 mod Table

@@ -2,7 +2,7 @@
 use Prim.Native.Nat.{ℕ, _+_, _-_, _<_, _≤_}
 use Rattle.lexer.proofs.Rest.{here, past, within}
 use Rattle.lexer.specs.Class.{backslash}
-use Rattle.lexer.specs.Cursor.{next-len, peek}
+use Rattle.lexer.specs.Cursor.{next-len}
 use Rattle.lexer.specs.Quoted.{quoted, quoted-closed}
 use Rattle.std.proofs.shelf.Lists.{drop-all, drop-drop, drop-more, getD-drop}
 use Rattle.std.specs.declared.option.Option.the-variants.{Some, None}
@@ -26,10 +26,6 @@ cond-self false = refl
 -- a byte that is not 0 lies within
 pub within-positive : (xs : List ℕ) (i : ℕ) → 0 < getD xs i 0 → i < length xs
 within-positive xs i h = within xs i (getD xs i 0 - 1) (omega arith)
-
-pub next-len-positive : (xs : List ℕ) → 0 < peek 0 xs → next-len xs ≡ 1
-next-len-positive [] h = absurd (omega arith)
-next-len-positive (x ∷ xs) h = refl
 
 module _ (q : ℕ) (e : Bool) where
   pub quoted-within : (xs : List ℕ) → quoted q e xs ≤ length xs
@@ -57,7 +53,7 @@ module _ (q : ℕ) (e : Bool) where
     quoted-step : (xs : List ℕ)
         → quoted q e (x ∷ xs) ≡ cond (eqb x q) (cond (eqb (getD xs 0 0) q) (2 + quoted q e (drop 1 xs)) 1) (cond (e && backslash x) (1 + next-len xs + quoted q e (drop 1 xs)) (1 + quoted q e xs))
     unfolding quoted
-    quoted-step [] = sym (simp (apart, cond-same (e && backslash x) 1, cond-same (eqb x q) 1))
+    quoted-step [] = sym (simp (apart, cond-same {X = ℕ} (e && backslash x) 1, cond-same {X = ℕ} (eqb x q) 1))
     quoted-step (y ∷ xs) = refl
 
     closed-step : (xs : List ℕ)
@@ -105,8 +101,7 @@ module _ (q : ℕ) (e : Bool) where
       unfolding quoted quoted-closed
       last other end =
           let none = drop-all (i + 1) xs end in
-          let one : drop i xs ≡ x ∷ [] = here xs i x at ∙ ap (λ l. x ∷ l) none in
-          (
+          let one : drop i xs ≡ x ∷ [] = here xs i x at ∙ ap (λ l. x ∷ l) none in (
             ap (quoted q e) one ∙ sym (ap (λ l. 1 + quoted q e l) none),
             ap (quoted-closed q e) one ∙ ne-eqb x q other ∙ sym (ap (quoted-closed q e) none),
           )

@@ -57,7 +57,9 @@ impl<'a, T: Text> Cursor<'a, T> {
     {
         self.bump();
         let terminated = self.single_quoted_string(prefix.backslash_escapes());
-        TokenKind::Literal { kind: prefix.literal(terminated) }
+        TokenKind::Literal {
+            kind: prefix.literal(terminated),
+        }
     }
 
     /// Goes on after a `'`. Says whether the string is terminated.
