@@ -2,4 +2,6 @@ pub mod Class
 pub mod Comment
 pub mod Cursor
 pub mod Number
+pub mod Quoted
+pub mod Start
 pub mod Token

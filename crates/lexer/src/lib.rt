@@ -4,4 +4,6 @@ mod class;
 mod comment;
 mod cursor;
 mod number;
+mod quoted;
+mod start;
 pub mod token;
