@@ -1,5 +1,6 @@
 mod Comments
 mod Quotes
+mod Dollars
 mod Moves
 mod Rest
 mod Table

@@ -3,5 +3,6 @@
 mod class;
 mod comment;
 mod cursor;
+mod dollar;
 mod quoted;
 pub mod token;
