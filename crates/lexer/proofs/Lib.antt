@@ -1,6 +1,7 @@
 mod Comments
-mod Quotes
 mod Dollars
 mod Moves
+mod Numbers
+mod Quotes
 mod Rest
 mod Table

@@ -4,5 +4,6 @@ mod class;
 mod comment;
 mod cursor;
 mod dollar;
+mod number;
 mod quoted;
 pub mod token;
