@@ -1,5 +1,5 @@
 -- Lists that begin with another, one turn of the search for a delimiter, and how far dollar-quoted strings reach.
-use Prim.Native.Nat.{ℕ, zero, suc, _+_, _<_, _≤_}
+use Prim.Native.Nat.{ℕ, suc, _+_, _<_, _≤_}
 use Rattle.lexer.proofs.Moves.{moved-by, moved-rest, moved-trans, next-one}
 use Rattle.lexer.proofs.Rest.{within}
 use Rattle.lexer.specs.Class.{decimal, ident-cont, ident-start, tag-cont}

@@ -4,7 +4,7 @@ use Rattle.lexer.proofs.dollar.dollar_end.Needs as need
 use Rattle.std.proofs.shelf.Lists.{length-drop}
 use borrow.Author.Needs.{needs}
 use lib.ListN.{drop, length, take}
-use mathlib.Core.Path.{_≡_, sym, _∙_}
+use mathlib.Core.Path.{sym, _∙_}
 use native.Mathlib.Omega.{arith}
 
 pub add-result : need.add-result

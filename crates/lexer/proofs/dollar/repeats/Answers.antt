@@ -1,4 +1,4 @@
-use Prim.Native.Nat.{_+_, _<_, _≤_}
+use Prim.Native.Nat.{_<_, _≤_}
 use Rattle.lexer.proofs.Dollars.{begins-all, begins-more, begins-short, range-byte, range-length}
 use Rattle.lexer.proofs.dollar.repeats.Needs as need
 use Rattle.std.proofs.shelf.Lists.{getD-drop, length-drop}

@@ -1,4 +1,4 @@
-use Prim.Native.Nat.{_+_, _-_, _<_, _≤_}
+use Prim.Native.Nat.{_+_, _-_}
 use Rattle.lexer.proofs.Dollars.{opener-bytes, opener-moved, opener-within}
 use Rattle.lexer.proofs.cursor.Cursor.dollar_quoted_string.Needs as need
 use Rattle.lexer.specs.Cursor.{rest}
