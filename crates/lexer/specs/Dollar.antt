@@ -1,5 +1,5 @@
--- What starts with a dollar sign: dollar-quoted strings and parameters. Everywhere here the bytes are those that follow
--- the first `$`.
+-- What starts with a dollar sign: dollar-quoted strings and parameters. From `opens-dollar` on, the bytes are those that
+-- follow the first `$`.
 use Prim.Native.Nat.{ℕ, _+_}
 use Rattle.lexer.specs.Class.{decimal, ident-start, tag-cont}
 use Rattle.lexer.specs.Cursor.{identifier, leads, peek, run}
