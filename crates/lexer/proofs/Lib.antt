@@ -1,4 +1,5 @@
 mod Comments
+mod Dollars
 mod Moves
 mod Numbers
 mod Quotes

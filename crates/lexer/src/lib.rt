@@ -3,6 +3,7 @@
 mod class;
 mod comment;
 mod cursor;
+mod dollar;
 mod number;
 mod quoted;
 mod start;

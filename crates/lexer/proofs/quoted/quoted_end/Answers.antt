@@ -6,7 +6,7 @@ use Rattle.lexer.proofs.quoted.quoted_end.Needs.{else-escapes·by·then-escape
 use Rattle.lexer.specs.Class.{backslash}
 use borrow.Author.Needs.{needs}
 use borrow.Author.Tests.{ne-eqb}
-use lib.ListN.{getD, length}
+use lib.ListN.{length}
 use mathlib.Core.Bool.{false, _&&_}
 use mathlib.Core.Path.{_≡_, sym, _∙_}
 use native.Mathlib.Omega.{arith}

@@ -1,11 +1,10 @@
-use Prim.Native.Nat.{_+_}
 use Rattle.lexer.proofs.Moves.{moved-by, moved-rest, moved-then, next-one}
 use Rattle.lexer.proofs.cursor.Cursor.prefixed_string.Needs as need
 use Rattle.lexer.specs.Cursor.{Moved, rest}
 use Rattle.lexer.specs.Quoted.{has-escapes, prefix-literal, quoted, quoted-closed}
 use Rattle.lexer.specs.declared.token.TokenKind.the-variants.{Literal}
 use lib.ListN.{drop}
-use mathlib.Core.Path.{_≡_, ap, sym, subst, _∙_}
+use mathlib.Core.Path.{_≡_, ap, _∙_}
 
 pub returns : need.returns
 returns g c =
