@@ -13,7 +13,7 @@ use Rattle.std.specs.shelf.Maps.{nth}
 use Rattle.std.proofs.shelf.Lists.{drop-all}
 use Rattle.text.specs.Clip.{longest}
 use Rattle.text.specs.Fit.{checked}
-use Rattle.text.specs.declared.fault.TextFault.the-variants.{IllFormed}
+use Rattle.text.specs.declared.fault.TextFault.the-variants.{TooLong, IllFormed}
 use Rattle.text.proofs.Places.{nth-drop, nth-beyond}
 use Rattle.std.proofs.shelf.Ways.{tells, leb-tells}
 use Rattle.std.specs.declared.option.Option.{Option}
@@ -69,11 +69,11 @@ pub told-more : (i n b : ℕ) (bs : List ℕ) → told i (suc n) (b ∷ bs) ≡ 
 unfolding sound-after
 told-more i n b bs = grind (arith, tells)
 
-sound-none : (b : ℕ) (bs : List ℕ) → sequence (b ∷ bs) ≡ 0 → sound (b ∷ bs) ≡ 0
+pub sound-none : (b : ℕ) (bs : List ℕ) → sequence (b ∷ bs) ≡ 0 → sound (b ∷ bs) ≡ 0
 unfolding sound-after
 sound-none b bs e = rw e
 
-sound-one : (b n : ℕ) (bs : List ℕ) → sequence (b ∷ bs) ≡ suc n → sound (b ∷ bs) ≡ suc (sound-after n bs)
+pub sound-one : (b n : ℕ) (bs : List ℕ) → sequence (b ∷ bs) ≡ suc n → sound (b ∷ bs) ≡ suc (sound-after n bs)
 unfolding sound-after
 sound-one b n bs e = rw e (grind (arith, tells))
 
@@ -133,6 +133,9 @@ found-row (range ∷ row) n i m (b ∷ bs) e =
 
 found-told : (i : ℕ) (bs : List ℕ) → found between i bs ≡ told i 0 bs
 found-told i bs = found-row [] 0 i i bs tt
+
+pub checked-long : (bs : List ℕ) → longest < length bs → checked bs ≡ Err TooLong
+checked-long bs h = grind (arith, tells)
 
 -- the fault of a text that is not too long is the place that is found
 pub checked-ill : (bs : List ℕ) (i : ℕ) → length bs ≤ longest → found between 0 bs ≡ Some i → checked bs ≡ Err (IllFormed i)
