@@ -97,7 +97,7 @@ utf8-4 x y z w bs s f g (inr h) (inr l) =
     of-four (x ∷ y ∷ z ∷ w ∷ bs) 0 (omega arith) (s .low) (s .follows) f g (omega arith, omega arith)
 
 -- a row that is matched is an encoding
-never : {X : Type 0} → false ≡ true → X
+pub never : {X : Type 0} → false ≡ true → X
 never e = let z : _≡_ {A = ℕ} 0 1 = cc in absurd (omega arith)
 
 utf8-row-1 : (bs : List ℕ) → matches ((0x00, 0x7F) ∷ []) bs ≡ true → Utf8 (take 1 bs)

@@ -47,7 +47,7 @@ Full [] = Unit {0}
 Full ([] ∷ rows) = ⊥
 Full ((range ∷ row) ∷ rows) = Full rows
 
-abbrev grown : List Row → List ℕ → ℕ
+abbrev pub grown : List Row → List ℕ → ℕ
 grown [] bs = 0
 grown (row ∷ rows) bs = cond (matches row bs) (suc (length row)) (grown rows bs)
 
@@ -150,9 +150,17 @@ step-taken [] n = omega arith
 step-taken ([] ∷ rows) n = omega arith
 step-taken ((range ∷ row) ∷ rows) n = omega arith
 
+ill-taken : (rows : List Row) (n : ℕ) → none-left (came-to rows n .rows) ≡ true → came-to rows n .taken ≡ n
+ill-taken [] n h = refl
+ill-taken ([] ∷ rows) n h = let z : _≡_ {A = ℕ} 0 1 = cc in absurd (omega arith)
+ill-taken ((range ∷ row) ∷ rows) n h = let z : _≡_ {A = ℕ} 0 1 = cc in absurd (omega arith)
+
 module _ (p q : Progress) (xs : List ℕ) (i b : ℕ) (at : nth xs i ≡ Some b) (e : q ≡ step p b) where
   pub taken-more : q .taken ≤ p .taken + 1
   taken-more = rw e (step-taken (left-after b (p .rows)) (p .taken))
+
+  pub taken-ill : none-left (q .rows) ≡ true → q .taken ≡ p .taken
+  taken-ill h = ap (λ s. s .taken) e ∙ ill-taken (left-after b (p .rows)) (p .taken) (sym (ap (λ s. none-left (s .rows)) e) ∙ h)
 
   pub found-ill : none-left (q .rows) ≡ true → found p i (drop i xs) ≡ Some (i - q .taken)
   unfolding found

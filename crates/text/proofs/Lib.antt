@@ -4,3 +4,4 @@ pub mod Leads
 pub mod Found
 pub mod Encoded
 pub mod Sound
+pub mod Runs

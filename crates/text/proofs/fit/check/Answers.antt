@@ -10,7 +10,7 @@ use Rattle.text.specs.Fit.{checked, Tells, TableIsUtf8}
 use Rattle.text.specs.declared.fault.TextFault.{TextFault}
 use Rattle.text.specs.declared.fault.TextFault.the-variants.{IllFormed}
 use Rattle.text.proofs.Places.{nth-below}
-use Rattle.text.proofs.Found.{checked-long, checked-ill, checked-fit, taken-more, found-ill, found-more, found-open, found-whole}
+use Rattle.text.proofs.Found.{checked-long, checked-ill, checked-fit, taken-more, taken-ill, found-ill, found-more, found-open, found-whole}
 use Rattle.text.proofs.Sound.{tells, table-is-utf8}
 use Rattle.text.proofs.fit.check.Needs as need
 
@@ -22,6 +22,14 @@ pub returns-then-len-gt-LONGEST : need.returns-then-len-gt-LONGEST
 returns-then-len-gt-LONGEST g c =
     let xs = g .T·Text .bytes (c .args .text .now) in
     answer xs _ (sym (checked-long xs (omega arith)))
+
+pub sub-result : need.sub-result
+sub-result g c =
+    let xs = g .T·Text .bytes (c .args .text .now) in
+    let p = progress (c .loop-byte .checker .state) in
+    let q = progress (c .feed .last .self .state) in
+    let same = taken-ill p q xs (c .loop-byte .place) (c .in-Some .byte) (sym (c .in-Some .ensures tt)) (c .feed .ensures) (sym (c .if-is-ill .ensures tt)) in
+    omega arith
 
 pub returns-then-is-ill : need.returns-then-is-ill
 returns-then-is-ill g c =
