@@ -3,7 +3,7 @@ use mathlib.Core.Path.{_≡_, refl, sym, ap, _∙_}
 use mathlib.Core.Bool.{Bool, true, false, cond, _&&_}
 use mathlib.Core.List.{List, [], _∷_}
 use mathlib.Core.Logic.{_⊎_, inl, inr}
-use Prim.Native.Nat.{ℕ, zero, suc, pred, _+_, _-_, _≤_, _<_}
+use Prim.Native.Nat.{ℕ, suc, _+_, _-_, _≤_, _<_}
 use native.Mathlib.Omega.{arith}
 use lib.Dec.{eqb}
 use lib.ListN.{length, drop}
@@ -15,10 +15,10 @@ use Rattle.text.specs.Clip.{longest}
 use Rattle.text.specs.Fit.{checked}
 use Rattle.text.specs.declared.fault.TextFault.the-variants.{TooLong, IllFormed}
 use Rattle.text.proofs.Places.{nth-drop, nth-beyond}
-use Rattle.std.proofs.shelf.Ways.{tells, leb-tells}
+use Rattle.std.proofs.shelf.Ways.{tells}
 use Rattle.std.specs.declared.option.Option.{Option}
 use Rattle.std.specs.declared.option.Option.the-variants.{Some, None}
-use Rattle.text.specs.Utf8.{Row, Range, tail, table, holds, matches, matched, sequence, sound, sound-after}
+use Rattle.text.specs.Utf8.{Row, table, holds, matches, matched, sequence, sound, sound-after}
 use Rattle.text.specs.Checker.{Progress, between, left-after, came-to, step, none-left}
 
 -- each byte begins at most one row
@@ -155,13 +155,16 @@ ill-taken [] n h = refl
 ill-taken ([] ∷ rows) n h = let z : _≡_ {A = ℕ} 0 1 = cc in absurd (omega arith)
 ill-taken ((range ∷ row) ∷ rows) n h = let z : _≡_ {A = ℕ} 0 1 = cc in absurd (omega arith)
 
-module _ (p q : Progress) (xs : List ℕ) (i b : ℕ) (at : nth xs i ≡ Some b) (e : q ≡ step p b) where
+module _ (p q : Progress) (b : ℕ) (e : q ≡ step p b) where
   pub taken-more : q .taken ≤ p .taken + 1
   taken-more = rw e (step-taken (left-after b (p .rows)) (p .taken))
 
   pub taken-ill : none-left (q .rows) ≡ true → q .taken ≡ p .taken
-  taken-ill h = ap (λ s. s .taken) e ∙ ill-taken (left-after b (p .rows)) (p .taken) (sym (ap (λ s. none-left (s .rows)) e) ∙ h)
+  taken-ill h =
+      ap (λ s. s .taken) e
+      ∙ ill-taken (left-after b (p .rows)) (p .taken) (sym (ap (λ s. none-left (s .rows)) e) ∙ h)
 
+module _ (p q : Progress) (xs : List ℕ) (i b : ℕ) (at : nth xs i ≡ Some b) (e : q ≡ step p b) where
   pub found-ill : none-left (q .rows) ≡ true → found p i (drop i xs) ≡ Some (i - q .taken)
   unfolding found
   found-ill h = rw (nth-drop xs i b at, ← e, h)

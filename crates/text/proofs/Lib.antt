@@ -1,6 +1,6 @@
-pub mod Clipped
 pub mod Places
-pub mod Leads
+pub mod Clipped
+pub mod Moves
 pub mod Found
 pub mod Encoded
 pub mod Sound

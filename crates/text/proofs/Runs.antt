@@ -2,16 +2,16 @@
 use mathlib.Core.Path.{_≡_, refl, sym, ap, subst, _∙_}
 use mathlib.Core.Bool.{Bool, true, false, cond, _&&_}
 use mathlib.Core.List.{List, [], _∷_}
-use mathlib.Core.Logic.{_⊎_, inl, inr}
-use Prim.Native.Nat.{ℕ, zero, suc, _+_, _≤_, _<_}
+use mathlib.Core.Logic.{inl, inr}
+use Prim.Native.Nat.{ℕ, zero, suc, _+_, _≤_}
 use native.Mathlib.Omega.{arith}
 use lib.Dec.{ltb}
 use lib.ListN.{length, drop, length-drop}
 use Rattle.std.proofs.shelf.Lists.{drop-drop}
 use Rattle.std.proofs.shelf.Ways.{tells}
 use Rattle.std.proofs.str.Laws.{both}
-use Rattle.text.specs.Utf8.{Row, table, holds, matches, sequence, sound, sound-after, WellFormed}
-use Rattle.text.specs.Checker.{Progress, between, left-after, came-to, step, none-left, run, begun, unsound, Stands, RunsByTable}
+use Rattle.text.specs.Utf8.{Row, table, holds, matches, sequence, sound, sound-after}
+use Rattle.text.specs.Checker.{Progress, between, left-after, came-to, none-left, run, begun, unsound, Stands, RunsByTable}
 use Rattle.text.proofs.Encoded.{never}
 use Rattle.text.proofs.Found.{lead-row, grown, sequence-grown, sound-none}
 use Rattle.text.proofs.Sound.{sound-sequence, front}

@@ -16,11 +16,9 @@ use Rattle.std.proofs.str.Laws.{both}
 use Rattle.std.proofs.str.Valid.{longer, whole}
 use Rattle.std.proofs.shelf.Ways.{tells as tests}
 use Rattle.std.specs.declared.result.Result.{Result}
-use Rattle.std.specs.declared.result.Result.the-variants.{Ok, Err}
 use Rattle.text.specs.Clip.{longest}
 use Rattle.text.specs.Fit.{checked, TableIsUtf8, Tells}
 use Rattle.text.specs.declared.fault.TextFault.{TextFault}
-use Rattle.text.specs.declared.fault.TextFault.the-variants.{IllFormed}
 use Rattle.text.specs.Utf8.{sequence, sound, sound-after, WellFormed}
 use Rattle.text.proofs.Encoded.{sequence-encode, sequence-within, utf8-sequence}
 use Rattle.text.proofs.Found.{sound-none, sound-one}

@@ -7,7 +7,8 @@ use crate::Utf8Checker;
 ghost use mathlib.Core.Path.{_≡_};
 ghost use Rattle.text.specs.Fit.{checked, TableIsUtf8, Tells};
 
-/// The first fault of a text, found in one pass.
+/// The first fault of a text, in one pass. The length is looked at first: a text that is too long is not looked
+/// into.
 pub fn check<T: Text>(text: &T) -> Result<(), TextFault>
     ensures value { λ r. ⌜ r ≡ checked (bytes (now (text .entry))) ⌝ }
     ensures characters { λ r. ⌜ Tells (bytes (now (text .entry))) r ⌝ }

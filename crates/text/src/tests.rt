@@ -13,6 +13,7 @@ use crate::Text;
 use crate::TextFault;
 use crate::TextFaultDebug;
 use crate::TextFaultPartialEq;
+use crate::Utf8Checker;
 use crate::check;
 use std::test::Fail;
 use std::test::Note;
@@ -122,6 +123,16 @@ fn longest_halves(rt: LibcRuntime) -> Result<(), Fail> {
     check_eq(halves(&blanks, b"\xFF"), ill(16_777_215))?;
     check_eq(halves(&blanks, b"a\xFF"), Err(TextFault::TooLong))?;
     check_eq(halves(&blanks, &blanks), Err(TextFault::TooLong))
+}
+
+#[test]
+fn bad_run() -> Result<(), Fail> {
+    let mut checker = Utf8Checker::new();
+    checker.feed(0xE2);
+    checker.feed(0x82);
+    check_eq((checker.is_ill(), checker.taken()), (false, 2))?;
+    checker.feed(b'(');
+    check_eq((checker.is_ill(), checker.taken()), (true, 2))
 }
 
 #[test]

@@ -1,6 +1,5 @@
 //! A checker of UTF-8, which is fed a text's bytes one by one.
 
-ghost use Prim.Native.Nat.{ℕ};
 ghost use mathlib.Core.Path.{_≡_};
 ghost use Rattle.text.specs.Checker.{between, none-left, progress, step, RunsByTable};
 

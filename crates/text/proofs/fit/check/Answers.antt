@@ -2,7 +2,6 @@ use mathlib.Core.Path.{_≡_, sym, ap, _∙_}
 use mathlib.Core.List.{List}
 use Prim.Native.Nat.{ℕ, _-_}
 use native.Mathlib.Omega.{arith}
-use Rattle.std.specs.declared.option.Option.the-variants.{Some}
 use Rattle.std.specs.declared.result.Result.{Result}
 use Rattle.std.specs.declared.result.Result.the-variants.{Err}
 use Rattle.text.specs.Checker.{progress}
@@ -28,7 +27,7 @@ sub-result g c =
     let xs = g .T·Text .bytes (c .args .text .now) in
     let p = progress (c .loop-byte .checker .state) in
     let q = progress (c .feed .last .self .state) in
-    let same = taken-ill p q xs (c .loop-byte .place) (c .in-Some .byte) (sym (c .in-Some .ensures tt)) (c .feed .ensures) (sym (c .if-is-ill .ensures tt)) in
+    let same = taken-ill p q (c .in-Some .byte) (c .feed .ensures) (sym (c .if-is-ill .ensures tt)) in
     omega arith
 
 pub returns-then-is-ill : need.returns-then-is-ill
@@ -54,7 +53,7 @@ loop-byte-again g c =
     let q = progress (c .feed .last .self .state) in
     let i = c .loop-byte .place in
     let below = nth-below xs i (c .in-Some .byte) (sym (c .in-Some .ensures tt)) in
-    let taken = taken-more p q xs i (c .in-Some .byte) (sym (c .in-Some .ensures tt)) (c .feed .ensures) in
+    let taken = taken-more p q (c .in-Some .byte) (c .feed .ensures) in
     let more = found-more p q xs i (c .in-Some .byte) (sym (c .in-Some .ensures tt)) (c .feed .ensures) (sym (c .if-is-ill .ensures tt)) in
     (omega arith, omega arith, sym more ∙ c .loop-byte .inv .2)
 
