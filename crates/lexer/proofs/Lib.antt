@@ -1,3 +1,4 @@
 mod Comments
+mod PsqlArgs
 mod Rest
 mod Table

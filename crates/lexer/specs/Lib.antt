@@ -1,4 +1,5 @@
 pub mod Class
 pub mod Comment
 pub mod Cursor
+pub mod PsqlArg
 pub mod Token

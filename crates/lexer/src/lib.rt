@@ -3,4 +3,5 @@
 mod class;
 mod comment;
 mod cursor;
+mod psql_arg;
 pub mod token;
