@@ -43,12 +43,29 @@ module _ (xs : List ℕ) (i a b : ℕ) (e : Some a ≡ nth xs i) (f : b ≡ getD
   beyond : drop 1 (drop (i + 1) xs) ≡ drop (i + 2) xs
   beyond = drop-drop 1 (i + 1) xs ∙ ap (λ k. drop k xs) (omega arith)
 
-  module _ (d : ℕ) where
-    pub comment-here : comment (suc d) (drop i xs) ≡ cond (opens a b) (2 + comment (suc (suc d)) (drop (i + 2) xs)) (cond (closes a b) (2 + comment d (drop (i + 2) xs)) (1 + comment (suc d) (drop (i + 1) xs)))
-    comment-here = ap (comment (suc d)) (here xs i a e) ∙ comment-step d a (drop (i + 1) xs) ∙ simp (second, beyond)
+  comment-here : (d : ℕ) → 0 < d → comment d (drop i xs) ≡ cond (opens a b) (2 + comment (d + 1) (drop (i + 2) xs)) (cond (closes a b) (2 + comment (d - 1) (drop (i + 2) xs)) (1 + comment d (drop (i + 1) xs)))
+  comment-here zero h = absurd (omega arith)
+  comment-here (suc d) h =
+      let up : suc d + 1 ≡ suc (suc d) = omega arith in
+      let down : suc d - 1 ≡ d = omega arith in
+      ap (comment (suc d)) (here xs i a e) ∙ comment-step d a (drop (i + 1) xs) ∙ simp (second, beyond, up, down)
 
-    pub closed-here : comment-closed (suc d) (drop i xs) ≡ cond (opens a b) (comment-closed (suc (suc d)) (drop (i + 2) xs)) (cond (closes a b) (comment-closed d (drop (i + 2) xs)) (comment-closed (suc d) (drop (i + 1) xs)))
-    closed-here = ap (comment-closed (suc d)) (here xs i a e) ∙ closed-step d a (drop (i + 1) xs) ∙ simp (second, beyond)
+  closed-here : (d : ℕ) → 0 < d → comment-closed d (drop i xs) ≡ cond (opens a b) (comment-closed (d + 1) (drop (i + 2) xs)) (cond (closes a b) (comment-closed (d - 1) (drop (i + 2) xs)) (comment-closed d (drop (i + 1) xs)))
+  closed-here zero h = absurd (omega arith)
+  closed-here (suc d) h =
+      let up : suc d + 1 ≡ suc (suc d) = omega arith in
+      let down : suc d - 1 ≡ d = omega arith in
+      ap (comment-closed (suc d)) (here xs i a e) ∙ closed-step d a (drop (i + 1) xs) ∙ simp (second, beyond, up, down)
+
+  module _ (d : ℕ) (h : 0 < d) where
+    pub opened : a ≡ 47 → b ≡ 42 → (comment d (drop i xs) ≡ 2 + comment (d + 1) (drop (i + 2) xs)) × (comment-closed d (drop i xs) ≡ comment-closed (d + 1) (drop (i + 2) xs))
+    opened p q = (comment-here d h ∙ simp (p, q), closed-here d h ∙ simp (p, q))
+
+    pub closed : a ≡ 42 → b ≡ 47 → (comment d (drop i xs) ≡ 2 + comment (d - 1) (drop (i + 2) xs)) × (comment-closed d (drop i xs) ≡ comment-closed (d - 1) (drop (i + 2) xs))
+    closed p q = (comment-here d h ∙ simp (p, q), closed-here d h ∙ simp (p, q))
+
+    pub unmarked : opens a b ≡ false → closes a b ≡ false → (comment d (drop i xs) ≡ 1 + comment d (drop (i + 1) xs)) × (comment-closed d (drop i xs) ≡ comment-closed d (drop (i + 1) xs))
+    unmarked p q = (comment-here d h ∙ simp (p, q), closed-here d h ∙ simp (p, q))
 
 module _ (xs : List ℕ) (i : ℕ) (e : None ≡ nth xs i) where
   pub comment-past : (d : ℕ) → comment d (drop i xs) ≡ 0
@@ -56,9 +73,10 @@ module _ (xs : List ℕ) (i : ℕ) (e : None ≡ nth xs i) where
   comment-past zero = refl
   comment-past (suc d) = ap (comment (suc d)) (past xs i e)
 
-  pub closed-past : (d : ℕ) → comment-closed (suc d) (drop i xs) ≡ false
+  pub closed-past : (d : ℕ) → 0 < d → comment-closed d (drop i xs) ≡ false
   unfolding comment-closed
-  closed-past d = ap (comment-closed (suc d)) (past xs i e)
+  closed-past zero h = absurd (omega arith)
+  closed-past (suc d) h = ap (comment-closed (suc d)) (past xs i e)
 
 pub comment-none : (xs : List ℕ) → comment 0 xs ≡ 0
 unfolding comment
