@@ -33,6 +33,10 @@ outside Backquoted = false
 abbrev pub stops : ArgState → ℕ → Bool
 stops state b = line-end b || (outside state && backslash b)
 
+-- a blank outside quotes stands between two arguments
+abbrev pub separates : ArgState → ℕ → Bool
+separates state b = outside state && line-blank b
+
 -- outside quotes: each of the three quotes opens its own
 abbrev pub after-outside : ℕ → ArgState
 after-outside b = cond (eqb b 39) Quoted (cond (eqb b 34) DoubleQuoted (cond (eqb b 96) Backquoted Outside))
@@ -85,4 +89,4 @@ arguments state (x ∷ xs) = cond (stops state x) 0 (1 + arguments (after state 
 -- the bytes of the options of `\g (`: all arguments up to the first whose value ends with `)`, and the blanks after it
 unfoldable pub options : ArgState → ℕ → List ℕ → ℕ
 options state last [] = 0
-options state last (x ∷ xs) = cond (stops state x) 0 (cond (outside state && line-blank x) (cond (eqb last 41) (run line-blank (x ∷ xs)) (1 + options Outside 0 xs)) (1 + options (after state x) (last-after state last x) xs))
+options state last (x ∷ xs) = cond (stops state x) 0 (cond (separates state x) (cond (eqb last 41) (run line-blank (x ∷ xs)) (1 + options Outside 0 xs)) (1 + options (after state x) (last-after state last x) xs))

@@ -3,11 +3,14 @@
 ghost use Prim.Native.Nat.{_+_, _-_, _*_, _%_};
 ghost use Rattle.lexer.specs.Class.{hexadecimal, line-blank};
 ghost use Rattle.lexer.specs.Cursor.{run};
-ghost use Rattle.lexer.specs.PsqlArg.{after, after-escape, after-outside, after-quoted, arguments, hex-value, last-after, last-quoted, octal, options, outside, stops};
+ghost use Rattle.lexer.specs.PsqlArg.{after, after-escape, after-outside, after-quoted, arguments, hex-value, last-after, last-quoted, octal, options, outside, separates, stops};
 ghost use lib.ListN.{drop};
-ghost use mathlib.Core.Bool.{true};
+ghost use mathlib.Core.Bool.{cond, true};
 ghost use mathlib.Core.Path.{_≡_};
 use crate::class::Class;
+use crate::class::DigitClass;
+use crate::class::HexDigit;
+use crate::class::HexDigits;
 use crate::class::LineBlank;
 use crate::class::LineBlankClass;
 use crate::cursor::Cursor;
@@ -56,6 +59,13 @@ impl ArgState {
         }
     }
 
+    /// Whether the byte is a blank between arguments.
+    fn ends_argument(self, byte: u8) -> bool
+        ensures { λ r. ⌜ r ≡ separates self byte ⌝ }
+    {
+        self.is_outside() && LineBlank.has(byte)
+    }
+
     /// The state after one more byte.
     fn after(self, byte: u8) -> ArgState
         ensures { λ r. ⌜ r ≡ after self byte ⌝ }
@@ -66,11 +76,11 @@ impl ArgState {
             ArgState::Backquoted if byte == b'`' => ArgState::Outside,
             ArgState::DoubleQuoted | ArgState::Backquoted => self,
             ArgState::Escape => after_escape(byte),
-            ArgState::OneOctalDigit if is_octal_digit(byte) => ArgState::TwoOctalDigits,
-            ArgState::TwoOctalDigits if is_octal_digit(byte) => ArgState::Quoted,
-            ArgState::HexMark if byte.is_ascii_hexdigit() => ArgState::OneHexDigit,
-            ArgState::OneHexDigit if byte.is_ascii_hexdigit() => ArgState::Quoted,
-            _ => after_quoted(byte),
+            ArgState::Quoted => after_quoted(byte),
+            ArgState::OneOctalDigit => after_digit(is_octal_digit(byte), ArgState::TwoOctalDigits, byte),
+            ArgState::TwoOctalDigits => after_digit(is_octal_digit(byte), ArgState::Quoted, byte),
+            ArgState::HexMark => after_digit(HexDigit::has_digit(byte), ArgState::OneHexDigit, byte),
+            ArgState::OneHexDigit => after_digit(HexDigit::has_digit(byte), ArgState::Quoted, byte),
         }
     }
 
@@ -86,8 +96,8 @@ impl ArgState {
             ArgState::Escape if is_octal_digit(byte) => byte - b'0',
             ArgState::Escape => byte,
             ArgState::OneOctalDigit | ArgState::TwoOctalDigits if is_octal_digit(byte) => last.wrapping_mul(8).wrapping_add(byte - b'0'),
-            ArgState::HexMark if byte.is_ascii_hexdigit() => hex_value(byte),
-            ArgState::OneHexDigit if byte.is_ascii_hexdigit() => last.wrapping_mul(16).wrapping_add(hex_value(byte)),
+            ArgState::HexMark if HexDigit::has_digit(byte) => hex_value(byte),
+            ArgState::OneHexDigit if HexDigit::has_digit(byte) => last.wrapping_mul(16).wrapping_add(hex_value(byte)),
             _ => last_quoted(last, byte),
         }
     }
@@ -121,6 +131,17 @@ fn after_escape(byte: u8) -> ArgState
         b'0'..=b'7' => ArgState::OneOctalDigit,
         b'x' => ArgState::HexMark,
         _ => ArgState::Quoted,
+    }
+}
+
+/// The escape goes on with one more digit, or has ended before the byte.
+fn after_digit(is_digit: bool, more: ArgState, byte: u8) -> ArgState
+    ensures { λ r. ⌜ r ≡ cond «is_digit» more (after-quoted byte) ⌝ }
+{
+    if is_digit {
+        more
+    } else {
+        after_quoted(byte)
     }
 }
 
@@ -183,7 +204,7 @@ pub(crate) fn options_end<T: Text>(text: &T, place: u32) -> u32
             if state.stops(byte) {
                 break 'options;
             }
-            if state.is_outside() && LineBlank.has(byte) {
+            if state.ends_argument(byte) {
                 break;
             }
             last = state.last_after(last, byte);

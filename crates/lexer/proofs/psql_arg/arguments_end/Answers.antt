@@ -1,8 +1,7 @@
-use Rattle.lexer.proofs.PsqlArgs.{arguments-here, arguments-past}
+use Rattle.lexer.proofs.PsqlArgs.{arguments-more, arguments-past, arguments-stop}
 use Rattle.lexer.proofs.Rest.{inside}
 use Rattle.lexer.proofs.psql_arg.arguments_end.Needs as need
 use borrow.Author.Needs.{needs}
-use mathlib.Core.Path.{sym, _∙_}
 use native.Mathlib.Omega.{arith}
 
 pub add-end : need.add-end
@@ -17,15 +16,13 @@ loop-byte-less g c =
 
 pub loop-byte-again : need.loop-byte-again
 loop-byte-again g c =
-    let more = arguments-here (g .T·Text .bytes (c .args .text .now)) (c .loop-byte .end) (c .in-Some .byte) (c .in-Some .ensures tt) (c .loop-byte .state) in
-    let goes-on = sym (c .stops .ensures) ∙ c .if-stops .left in
-    ?
+    let more = arguments-more (g .T·Text .bytes (c .args .text .now)) (c .loop-byte .end) (c .in-Some .byte) (c .in-Some .ensures tt) (c .loop-byte .state) (c .if-stops .ensures tt) (c .after-state .result) (c .after-state .ensures) in
+    omega arith
 
 pub returns-then-stops : need.returns-then-stops
 returns-then-stops g c =
-    let more = arguments-here (g .T·Text .bytes (c .args .text .now)) (c .loop-byte .end) (c .in-Some .byte) (c .in-Some .ensures tt) (c .loop-byte .state) in
-    let stopped = sym (c .stops .ensures) ∙ c .if-stops .taken in
-    omega (arith, simp stopped at more)
+    let stop = arguments-stop (g .T·Text .bytes (c .args .text .now)) (c .loop-byte .end) (c .in-Some .byte) (c .in-Some .ensures tt) (c .loop-byte .state) (c .if-stops .ensures tt) in
+    omega arith
 
 pub returns-in-rest : need.returns-in-rest
 returns-in-rest g c =
