@@ -1,4 +1,5 @@
 mod Comments
 mod PsqlArgs
+mod PsqlWords
 mod Rest
 mod Table

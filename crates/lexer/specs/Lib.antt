@@ -1,5 +1,6 @@
 pub mod Class
 pub mod Comment
 pub mod Cursor
+pub mod Psql
 pub mod PsqlArg
 pub mod Token

@@ -3,5 +3,6 @@
 mod class;
 mod comment;
 mod cursor;
+mod psql;
 mod psql_arg;
 pub mod token;
