@@ -1,4 +1,6 @@
 mod Comments
+mod Moves
+mod Numbers
 mod PsqlArgs
 mod PsqlWords
 mod Rest

@@ -3,6 +3,7 @@
 mod class;
 mod comment;
 mod cursor;
+mod number;
 mod psql;
 mod psql_arg;
 pub mod token;
