@@ -1,5 +1,5 @@
 -- Words compared byte by byte, and lists of words searched one by one.
-use Prim.Native.Nat.{ℕ, zero, suc, _+_, _<_, _≤_}
+use Prim.Native.Nat.{ℕ, zero, suc, _+_, _-_, _<_, _≤_}
 use Rattle.lexer.specs.Psql.{listed, spelt}
 use Rattle.std.proofs.shelf.Lists.{drop-all, drop-more, getD-drop, getD-take, length-drop, length-take-le}
 use Rattle.std.proofs.shelf.Tests.{eq-eqb, ne-eqb}
@@ -30,7 +30,7 @@ module _ (f : ℕ → ℕ) (xs ys : List ℕ) (k : ℕ) where
   spelt-end h i = ap (λ l. spelt f l (drop k ys)) (drop-all k xs h) ∙ ap (spelt f []) (drop-all k ys i)
 
 -- the bytes of a word that lies within the text
-module _ (bs : List ℕ) (place len : ℕ) (within : place + len ≤ length bs) where
+module _ (bs : List ℕ) (place len : ℕ) (within : len ≤ length bs - place) where
   pub length-within : length (take len (drop place bs)) ≡ len
   length-within = length-take-le len (drop place bs) (simp length-drop (omega arith))
 

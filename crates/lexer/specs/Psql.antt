@@ -71,7 +71,7 @@ abbrev pub any-case-line-words : List (List ℕ)
 any-case-line-words = codes "copy" ∷ []
 
 -- what a word does
-abbrev pub meaning : List ℕ → Command
+unfoldable pub meaning : List ℕ → Command
 meaning w =
     record {
       «ends_query» = listed (fold false) ending-words w;

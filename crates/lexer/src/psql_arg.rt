@@ -77,9 +77,17 @@ impl ArgState {
             ArgState::DoubleQuoted | ArgState::Backquoted => self,
             ArgState::Escape => after_escape(byte),
             ArgState::Quoted => after_quoted(byte),
-            ArgState::OneOctalDigit => after_digit(is_octal_digit(byte), ArgState::TwoOctalDigits, byte),
+            ArgState::OneOctalDigit => after_digit(
+                is_octal_digit(byte),
+                ArgState::TwoOctalDigits,
+                byte,
+            ),
             ArgState::TwoOctalDigits => after_digit(is_octal_digit(byte), ArgState::Quoted, byte),
-            ArgState::HexMark => after_digit(HexDigit::has_digit(byte), ArgState::OneHexDigit, byte),
+            ArgState::HexMark => after_digit(
+                HexDigit::has_digit(byte),
+                ArgState::OneHexDigit,
+                byte,
+            ),
             ArgState::OneHexDigit => after_digit(HexDigit::has_digit(byte), ArgState::Quoted, byte),
         }
     }
@@ -95,9 +103,11 @@ impl ArgState {
             ArgState::Backquoted => 0,
             ArgState::Escape if is_octal_digit(byte) => byte - b'0',
             ArgState::Escape => byte,
-            ArgState::OneOctalDigit | ArgState::TwoOctalDigits if is_octal_digit(byte) => last.wrapping_mul(8).wrapping_add(byte - b'0'),
+            ArgState::OneOctalDigit | ArgState::TwoOctalDigits if is_octal_digit(byte) =>
+                last.wrapping_mul(8).wrapping_add(byte - b'0'),
             ArgState::HexMark if HexDigit::has_digit(byte) => hex_value(byte),
-            ArgState::OneHexDigit if HexDigit::has_digit(byte) => last.wrapping_mul(16).wrapping_add(hex_value(byte)),
+            ArgState::OneHexDigit if HexDigit::has_digit(byte) => last.wrapping_mul(16)
+                .wrapping_add(hex_value(byte)),
             _ => last_quoted(last, byte),
         }
     }
@@ -138,11 +148,7 @@ fn after_escape(byte: u8) -> ArgState
 fn after_digit(is_digit: bool, more: ArgState, byte: u8) -> ArgState
     ensures { λ r. ⌜ r ≡ cond «is_digit» more (after-quoted byte) ⌝ }
 {
-    if is_digit {
-        more
-    } else {
-        after_quoted(byte)
-    }
+    if is_digit { more } else { after_quoted(byte) }
 }
 
 fn last_quoted(last: u8, byte: u8) -> u8
