@@ -2,6 +2,9 @@ mod Comments
 mod Dollars
 mod Moves
 mod Numbers
+mod PsqlArgs
+mod PsqlLens
+mod PsqlWords
 mod Quotes
 mod Rest
 mod Starts

@@ -13,11 +13,14 @@ use Rattle.lexer.specs.declared.start.Start.the-variants.{Blanks, Line, Block,
 use Rattle.lexer.specs.declared.start.Start.{Start}
 use Rattle.lexer.specs.declared.token.LiteralKind.the-variants.{Str}
 use Rattle.lexer.specs.declared.token.Token.{Token}
-use Rattle.lexer.specs.declared.token.TokenKind.the-variants.{BlockComment, DotDot, Ident, LineComment, Literal, QuotedIdent, Whitespace}
+use Rattle.lexer.specs.declared.token.TokenKind.the-variants.{BlockComment, DotDot, Eof, Ident, LineComment, Literal, QuotedIdent, Whitespace}
 use Rattle.lexer.specs.declared.token.TokenKind.{TokenKind}
-use lib.ListN.{drop}
-use mathlib.Core.Bool.{true, false}
-use mathlib.Core.List.{List}
+use Rattle.std.specs.declared.option.Option.the-variants.{Some, None}
+use Rattle.std.specs.declared.option.Option.{Option}
+use lib.Dec.{eqb, ltb}
+use lib.ListN.{drop, length}
+use mathlib.Core.Bool.{Bool, true, false, cond, _&&_}
+use mathlib.Core.List.{List, [], _∷_}
 
 -- the kind of a token that starts so with the byte `first`, where `xs` follows it
 abbrev pub kind-of : Start → ℕ → List ℕ → TokenKind
@@ -56,9 +59,24 @@ rest-len DoubleQuote first xs = quoted 34 false xs
 rest-len (Symbol kind) first xs = 0
 
 -- how a token starts whose first byte is given, and those that follow it
-abbrev pub start : ℕ → List ℕ → Start
-start first xs = start-of first (peek 0 xs) (peek 1 xs)
+abbrev pub start-with : ℕ → List ℕ → Start
+start-with first xs = start-of first (peek 0 xs) (peek 1 xs)
 
--- the token
+-- the token that begins with a byte, where `xs` follows it
 unfoldable pub lex : ℕ → List ℕ → Token
-lex first xs = record { kind = kind-of (start first xs) first xs; len = 1 + rest-len (start first xs) first xs }
+lex first xs = record { kind = kind-of (start-with first xs) first xs; len = 1 + rest-len (start-with first xs) first xs }
+
+-- the token at the front of a list; of none, the end
+abbrev pub token-from : List ℕ → Token
+token-from [] = record { kind = Eof; len = 0 }
+token-from (x ∷ xs) = lex x xs
+
+-- whether a text starts with a byte-order mark
+abbrev pub marked : List ℕ → Bool
+marked xs = eqb (peek 0 xs) 239 && (eqb (peek 1 xs) 187 && eqb (peek 2 xs) 191)
+
+-- the token at a place of a text: a byte-order mark at the very start is whitespace of its own
+abbrev pub token-at : List ℕ → ℕ → Option Token
+token-at xs place =
+    cond (eqb place 0 && marked xs) (Some record { kind = Whitespace; len = 3 })
+    (cond (ltb place (length xs)) (Some (token-from (drop place xs))) None)

@@ -1,7 +1,7 @@
 //! The cursor: a place in a text, which eats the characters of one token after another.
 
 ghost use Prim.Native.Nat.{ℕ, _+_, _-_, _<_, _≤_};
-ghost use Rattle.lexer.specs.Class.{all-but};
+ghost use Rattle.lexer.specs.Class.{all-but, ident-cont, whitespace};
 ghost use Rattle.lexer.specs.Cursor.{Moved, at-end, digit-met, digits, identifier, leads, next-len, peek, rest, run};
 ghost use Rattle.std.specs.shelf.Maps.{nth};
 ghost use lib.Dec.{eqb};
@@ -16,6 +16,9 @@ use crate::class::IdentCont;
 use crate::class::IdentContClass;
 use crate::class::IdentStart;
 use crate::class::IdentStartClass;
+use crate::class::Whitespace;
+use crate::class::WhitespaceClass;
+use crate::token::TokenKind;
 use text::Text;
 
 /// A place in a text, and where the token that is being read began.
@@ -172,6 +175,24 @@ impl<'a, T: Text> Cursor<'a, T> {
         ensures { λ _. ⌜ Moved (now (self .entry)) (now (self .exit)) (run (all-but first second) (rest (T·Text .bytes) (now (self .entry)))) ⌝ }
     {
         self.eat_while(&AllBut(first, second));
+    }
+
+    /// Goes on after the first character of an identifier.
+    pub(crate) fn ident(&mut self) -> TokenKind
+        ensures kind { λ r. ⌜ r ≡ TokenKind.Ident ⌝ }
+        ensures moved { λ _. ⌜ Moved (now (self .entry)) (now (self .exit)) (run ident-cont (rest (T·Text .bytes) (now (self .entry)))) ⌝ }
+    {
+        self.eat_while(&IdentCont);
+        TokenKind::Ident
+    }
+
+    /// Goes on after the first character of whitespace.
+    pub(crate) fn whitespace(&mut self) -> TokenKind
+        ensures kind { λ r. ⌜ r ≡ TokenKind.Whitespace ⌝ }
+        ensures moved { λ _. ⌜ Moved (now (self .entry)) (now (self .exit)) (run whitespace (rest (T·Text .bytes) (now (self .entry)))) ⌝ }
+    {
+        self.eat_while(&Whitespace);
+        TokenKind::Whitespace
     }
 
     /// Eats what follows of a junk identifier: a starting character and those that go on with it, or nothing.
