@@ -1,5 +1,5 @@
 -- A psql command ends within the text.
-use Prim.Native.Nat.{ℕ, zero, suc, _+_, _-_, _≤_}
+use Prim.Native.Nat.{ℕ, _+_, _-_, _≤_}
 use Rattle.lexer.specs.Class.{all-but, command-letter, line-blank}
 use Rattle.lexer.specs.Cursor.{peek, run}
 use Rattle.lexer.specs.Psql.{before-pipe, command, command-len, followed, opened-options, psql-len, what-follows}
@@ -11,9 +11,9 @@ use Rattle.std.proofs.shelf.Lists.{length-drop}
 use Rattle.std.proofs.shelf.Tests.{cond-both}
 use lib.Dec.{eqb}
 use lib.ListN.{drop, length}
-use mathlib.Core.Bool.{Bool, true, false, cond, _&&_, _||_}
+use mathlib.Core.Bool.{Bool, true, _&&_, _||_}
 use mathlib.Core.List.{List, [], _∷_}
-use mathlib.Core.Path.{_≡_, refl, ap, sym, _∙_}
+use mathlib.Core.Path.{_≡_}
 use native.Mathlib.Omega.{arith}
 
 pub run-within : (class : ℕ → Bool) (xs : List ℕ) → run class xs ≤ length xs
