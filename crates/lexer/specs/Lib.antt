@@ -1,7 +1,10 @@
 pub mod Class
 pub mod Comment
 pub mod Cursor
+pub mod Dollar
 pub mod Number
 pub mod Psql
 pub mod PsqlArg
+pub mod Quoted
+pub mod Start
 pub mod Token

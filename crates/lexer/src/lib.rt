@@ -3,7 +3,10 @@
 mod class;
 mod comment;
 mod cursor;
+mod dollar;
 mod number;
 mod psql;
 mod psql_arg;
+mod quoted;
+mod start;
 pub mod token;

@@ -1,5 +1,30 @@
 //! Texts: finite sequences of bytes that can be asked for their length and for the byte at a place.
 
+mod fault;
+mod fit;
+mod flat;
+mod halves;
+mod run;
+#[cfg(test)]
+mod tests;
+mod utf8;
+
+pub use fault::Fault;
+pub use fault::FaultDebug;
+pub use fault::FaultPartialEq;
+pub use fault::Layer;
+pub use fault::LayerDebug;
+pub use fault::LayerPartialEq;
+pub use fault::TextFault;
+pub use fault::TextFaultDebug;
+pub use fault::TextFaultPartialEq;
+pub use fit::check;
+pub use flat::Flat;
+pub use flat::FlatText;
+pub use halves::Halves;
+pub use halves::HalvesText;
+pub use run::LONGEST;
+pub use utf8::Utf8Checker;
 ghost use Prim.Native.Nat.{ℕ, _^_, _<_};
 ghost use Rattle.std.specs.shelf.Maps.{nth};
 ghost use lib.ListN.{length};
