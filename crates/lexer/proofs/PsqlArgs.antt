@@ -1,7 +1,7 @@
 -- One turn of the argument loops, and what blanks before an argument are.
-use Prim.Native.Nat.{ℕ, zero, suc, _+_, _<_, _≤_}
+use Prim.Native.Nat.{ℕ, suc, _+_, _<_}
 use Rattle.lexer.proofs.Rest.{here, past, run-here}
-use Rattle.lexer.specs.Class.{line-blank, line-end}
+use Rattle.lexer.specs.Class.{line-blank}
 use Rattle.lexer.specs.Cursor.{run}
 use Rattle.lexer.specs.PsqlArg.{after, arguments, last-after, options, outside, separates, stops}
 use Rattle.lexer.specs.declared.psql_arg.ArgState.{ArgState}
@@ -12,10 +12,10 @@ use Rattle.std.proofs.shelf.Ways.{tells}
 use Rattle.std.specs.declared.option.Option.the-variants.{Some, None}
 use Rattle.std.specs.shelf.Maps.{nth}
 use lib.Dec.{eqb}
-use lib.ListN.{drop, length}
-use mathlib.Core.Bool.{Bool, true, false, cond, not, _&&_, _||_}
+use lib.ListN.{drop}
+use mathlib.Core.Bool.{true, false, cond}
 use mathlib.Core.List.{List, [], _∷_}
-use mathlib.Core.Logic.{_⊎_, inl, inr}
+use mathlib.Core.Logic.{inl, inr}
 use mathlib.Core.Path.{_≡_, refl, ap, sym, _∙_}
 use native.Mathlib.Omega.{arith}
 

@@ -1,5 +1,6 @@
 -- A psql command ends within the text.
-use Prim.Native.Nat.{ℕ, zero, suc, _+_, _-_, _≤_}
+use Prim.Native.Nat.{ℕ, _+_, _-_, _≤_}
+use Rattle.lexer.proofs.Dollars.{run-within}
 use Rattle.lexer.specs.Class.{all-but, command-letter, line-blank}
 use Rattle.lexer.specs.Cursor.{peek, run}
 use Rattle.lexer.specs.Psql.{before-pipe, command, command-len, followed, opened-options, psql-len, what-follows}
@@ -11,17 +12,10 @@ use Rattle.std.proofs.shelf.Lists.{length-drop}
 use Rattle.std.proofs.shelf.Tests.{cond-both}
 use lib.Dec.{eqb}
 use lib.ListN.{drop, length}
-use mathlib.Core.Bool.{Bool, true, false, cond, _&&_, _||_}
+use mathlib.Core.Bool.{Bool, true, _&&_, _||_}
 use mathlib.Core.List.{List, [], _∷_}
-use mathlib.Core.Path.{_≡_, refl, ap, sym, _∙_}
+use mathlib.Core.Path.{_≡_}
 use native.Mathlib.Omega.{arith}
-
-pub run-within : (class : ℕ → Bool) (xs : List ℕ) → run class xs ≤ length xs
-unfolding run
-run-within class [] = omega arith
-run-within class (x ∷ xs) =
-    let more = run-within class xs in
-    cond-both (class x) (1 + run class xs) 0 (λ n. n ≤ length (x ∷ xs)) (λ _. omega arith) (λ _. omega arith)
 
 -- where a run from a place on ends
 pub run-end-within : (class : ℕ → Bool) (bs : List ℕ) (place end : ℕ) → end ≡ place + run class (drop place bs) → end - place ≤ length bs - place

@@ -1,8 +1,8 @@
 -- Words compared byte by byte, and lists of words searched one by one.
-use Prim.Native.Nat.{ℕ, zero, suc, _+_, _-_, _<_, _≤_}
+use Prim.Native.Nat.{ℕ, _+_, _-_, _<_, _≤_}
 use Rattle.lexer.specs.Psql.{listed, spelt}
 use Rattle.std.proofs.shelf.Lists.{drop-all, drop-more, getD-drop, getD-take, length-drop, length-take-le}
-use Rattle.std.proofs.shelf.Tests.{eq-eqb, ne-eqb}
+use Rattle.std.proofs.shelf.Tests.{and-right, eq-eqb, ne-eqb}
 use denote.Ref.{RefT}
 use lib.Dec.{eqb}
 use lib.ListN.{drop, getD, length, take}
@@ -11,16 +11,12 @@ use mathlib.Core.List.{List, [], _∷_, map}
 use mathlib.Core.Path.{_≡_, refl, ap, sym, _∙_}
 use native.Mathlib.Omega.{arith}
 
-and-false : (b : Bool) → (b && false) ≡ false
-and-false true = refl
-and-false false = refl
-
 -- words of two lengths differ
 pub spelt-unlike : (f : ℕ → ℕ) (xs ys : List ℕ) → (length xs ≡ length ys → ⊥) → spelt f xs ys ≡ false
 spelt-unlike f [] [] h = absurd (h refl)
 spelt-unlike f [] (y ∷ ys) h = refl
 spelt-unlike f (x ∷ xs) [] h = refl
-spelt-unlike f (x ∷ xs) (y ∷ ys) h = simp (spelt-unlike f xs ys (λ e. h (omega arith)), and-false (eqb x (f y)))
+spelt-unlike f (x ∷ xs) (y ∷ ys) h = and-right (eqb x (f y)) (spelt f xs ys) (spelt-unlike f xs ys (λ e. h (omega arith)))
 
 module _ (f : ℕ → ℕ) (xs ys : List ℕ) (k : ℕ) where
   spelt-here : k < length xs → k < length ys → spelt f (drop k xs) (drop k ys) ≡ (eqb (getD xs k 0) (f (getD ys k 0)) && spelt f (drop (k + 1) xs) (drop (k + 1) ys))

@@ -66,9 +66,10 @@ after Backquoted b = cond (eqb b 96) Outside Backquoted
 abbrev pub last-quoted : ℕ → ℕ → ℕ
 last-quoted last b = cond (eqb b 39) last (cond (backslash b) last b)
 
--- the last character of the argument's value after one more byte, 0 for none: escapes count as what they stand for (as far
--- as it can be a parenthesis), two single quotes as one, an opening or closing single quote as nothing, a double quote as
--- itself, and a command in backticks leaves none
+-- the last character of the argument's value after one more byte, 0 for none: digits of an escape count as the character
+-- that they stand for so far, other escapes as their letter (a control character is no parenthesis either), two single
+-- quotes as one, an opening or closing single quote as nothing, a double quote as itself, and a command in backticks
+-- leaves none
 abbrev pub last-after : ArgState → ℕ → ℕ → ℕ
 last-after Outside last b = cond (eqb b 39) last b
 last-after Closing last b = b

@@ -70,7 +70,7 @@ impl<'a, T: Text> Cursor<'a, T> {
         }
     }
 
-    /// Eats what stands before a pipe, where the word takes one.
+    /// Eats what stands before a pipe, where the word takes one: blanks, then options.
     fn eat_before_pipe(&mut self, command: Command)
         ensures { λ _. ⌜ Moved (now (self .entry)) (now (self .exit)) (before-pipe command (rest (T·Text .bytes) (now (self .entry)))) ⌝ }
     {
@@ -80,7 +80,7 @@ impl<'a, T: Text> Cursor<'a, T> {
         }
     }
 
-    /// Eats the rest of the line or the arguments.
+    /// Eats the rest of the line, or the arguments, which end at a backslash outside quotes too.
     fn eat_what_follows(&mut self, command: Command)
         ensures { λ _. ⌜ Moved (now (self .entry)) (now (self .exit)) (what-follows command (rest (T·Text .bytes) (now (self .entry)))) ⌝ }
     {
@@ -101,6 +101,7 @@ impl<'a, T: Text> Cursor<'a, T> {
         }
     }
 
+    /// Eats the arguments, with the blanks between them.
     fn eat_arguments(&mut self)
         ensures { λ _. ⌜ Moved (now (self .entry)) (now (self .exit)) (arguments Outside (rest (T·Text .bytes) (now (self .entry)))) ⌝ }
     {
@@ -109,6 +110,7 @@ impl<'a, T: Text> Cursor<'a, T> {
     }
 }
 
+/// The words that end the query before them.
 const ENDS_QUERY: [&[u8]; 18] = [
     b"g",
     b"gx",
@@ -130,10 +132,13 @@ const ENDS_QUERY: [&[u8]; 18] = [
     b"reset",
 ];
 
+/// The words that may be followed by a pipe to a program.
 const TAKES_PIPE: [&[u8]; 6] = [b"g", b"gx", b"o", b"out", b"w", b"write"];
 
+/// Those of them that take options in parentheses before it.
 const TAKES_OPTIONS: [&[u8]; 2] = [b"g", b"gx"];
 
+/// The words that take the rest of their line as it is, neither quotes nor backslashes read.
 const READS_LINE: [&[u8]; 9] = [
     b"!",
     b"ef",
@@ -146,6 +151,7 @@ const READS_LINE: [&[u8]; 9] = [
     b"help",
 ];
 
+/// The one that does so whatever the case of its letters.
 const READS_LINE_IN_ANY_CASE: [&[u8]; 1] = [b"copy"];
 
 /// What the word of so many bytes from the place on does.
@@ -193,6 +199,7 @@ fn is_word<T: Text>(text: &T, place: u32, len: u32, any_case: bool, word: &[u8])
     true
 }
 
+/// The byte, as a small letter if any case will do.
 fn folded(byte: u8, any_case: bool) -> u8
     ensures { λ r. ⌜ r ≡ fold «any_case» byte ⌝ }
 {

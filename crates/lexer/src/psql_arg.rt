@@ -1,6 +1,6 @@
 //! The arguments of psql commands: quotes, escapes, and where the arguments end.
 
-ghost use Prim.Native.Nat.{_+_, _-_, _*_, _%_};
+ghost use Prim.Native.Nat.{_+_, _-_};
 ghost use Rattle.lexer.specs.Class.{hexadecimal, line-blank};
 ghost use Rattle.lexer.specs.Cursor.{run};
 ghost use Rattle.lexer.specs.PsqlArg.{after, after-escape, after-outside, after-quoted, arguments, hex-value, last-after, last-quoted, octal, options, outside, separates, stops};
@@ -42,6 +42,7 @@ pub(crate) enum ArgState {
 }
 
 impl ArgState {
+    /// Whether a backslash or a blank here ends something.
     fn is_outside(self) -> bool
         ensures { λ r. ⌜ r ≡ outside self ⌝ }
     {
@@ -93,7 +94,8 @@ impl ArgState {
     }
 
     /// The last character of the argument's value after one more byte, where it was `last`; 0 stands for none. While digits
-    /// of an escape are read it is the character that they stand for so far.
+    /// of an escape are read it is the character that they stand for so far. `\n` and its kind stand for control characters;
+    /// the letter serves as well, since all that is asked of the last character is whether it is a parenthesis.
     fn last_after(self, last: u8, byte: u8) -> u8
         ensures { λ r. ⌜ r ≡ last-after self last byte ⌝ }
     {
@@ -113,6 +115,7 @@ impl ArgState {
     }
 }
 
+/// Outside quotes each of the three quotes opens its own.
 fn after_outside(byte: u8) -> ArgState
     ensures { λ r. ⌜ r ≡ after-outside byte ⌝ }
 {
@@ -124,6 +127,7 @@ fn after_outside(byte: u8) -> ArgState
     }
 }
 
+/// Within single quotes a quote closes, and a backslash takes the next character.
 fn after_quoted(byte: u8) -> ArgState
     ensures { λ r. ⌜ r ≡ after-quoted byte ⌝ }
 {
@@ -134,6 +138,7 @@ fn after_quoted(byte: u8) -> ArgState
     }
 }
 
+/// After that backslash octal digits, or an `x` and hexadecimal digits, stand for a character; any other for itself.
 fn after_escape(byte: u8) -> ArgState
     ensures { λ r. ⌜ r ≡ after-escape byte ⌝ }
 {
@@ -151,6 +156,7 @@ fn after_digit(is_digit: bool, more: ArgState, byte: u8) -> ArgState
     if is_digit { more } else { after_quoted(byte) }
 }
 
+/// Within single quotes a quote and a backslash stand for nothing yet.
 fn last_quoted(last: u8, byte: u8) -> u8
     ensures { λ r. ⌜ r ≡ last-quoted last byte ⌝ }
 {
@@ -225,6 +231,7 @@ pub(crate) fn options_end<T: Text>(text: &T, place: u32) -> u32
     end
 }
 
+/// Where the blanks end that stand at the place.
 fn blanks_end<T: Text>(text: &T, place: u32) -> u32
     ensures { λ r. ⌜ r ≡ place + run line-blank (drop place (T·Text .bytes (now (text .entry)))) ⌝ }
 {

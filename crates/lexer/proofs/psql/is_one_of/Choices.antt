@@ -1,4 +1,3 @@
-use Prim.Native.Nat.{_+_, _≤_}
 use Rattle.lexer.proofs.psql.is_one_of.Given as given
 use Rattle.lexer.specs.Psql.{fold, listed}
 use lib.ListN.{drop, take}

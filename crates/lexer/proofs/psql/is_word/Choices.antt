@@ -1,4 +1,4 @@
-use Prim.Native.Nat.{_+_, _≤_}
+use Prim.Native.Nat.{_+_}
 use Rattle.lexer.proofs.psql.is_word.Given as given
 use Rattle.lexer.specs.Psql.{fold, spelt}
 use lib.ListN.{drop, take}

@@ -1,7 +1,6 @@
 use Rattle.lexer.proofs.Moves.{moved-by, moved-then}
 use Rattle.lexer.proofs.cursor.Cursor.eat_before_pipe.Needs as need
 use Rattle.lexer.specs.Psql.{opened-options}
-use mathlib.Core.Path.{sym}
 
 pub returns-then-command : need.returns-then-command
 returns-then-command g c =

@@ -6,7 +6,7 @@ use Rattle.lexer.specs.Psql.{command, command-len, psql-kind, psql-len}
 use Rattle.lexer.specs.declared.token.TokenKind.the-variants.{PsqlCommand}
 use borrow.Author.Tests.{ne-eqb}
 use mathlib.Core.List.{List}
-use mathlib.Core.Path.{_≡_, sym, _∙_}
+use mathlib.Core.Path.{_≡_, _∙_}
 use native.Mathlib.Omega.{arith}
 
 module _ (xs : List ℕ) (a : peek 0 xs ≡ 92 → ⊥) (b : peek 0 xs ≡ 59 → ⊥) (d : peek 0 xs ≡ 58 → ⊥) where

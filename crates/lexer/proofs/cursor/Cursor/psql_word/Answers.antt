@@ -7,7 +7,7 @@ use Rattle.lexer.specs.Cursor.{rest, run}
 use Rattle.lexer.specs.Psql.{before-pipe, command, followed, meaning, what-follows}
 use Rattle.lexer.specs.declared.token.TokenKind.the-variants.{PsqlCommand}
 use lib.ListN.{drop, length, take}
-use mathlib.Core.Path.{_≡_, ap, sym, _∙_}
+use mathlib.Core.Path.{_≡_, ap, _∙_}
 use native.Mathlib.Omega.{arith}
 
 pub command-of-command-requires : need.command-of-command-requires
