@@ -46,6 +46,11 @@ value-or-nth [] i = refl
 value-or-nth (x ∷ xs) zero = refl
 value-or-nth (x ∷ xs) (suc i) = value-or-nth xs i
 
+-- a list with a first byte is that byte and what follows it
+pub front : (xs : List ℕ) (b : ℕ) → Some b ≡ nth xs 0 → xs ≡ b ∷ drop 1 xs
+front [] b e = let z : _≡_ {A = ℕ} 0 1 = cc in absurd (omega arith)
+front (x ∷ xs) b e = let same : x ≡ b = cc in ap (λ y. y ∷ xs) same
+
 -- a byte that is not 0 lies within
 pub within : (xs : List ℕ) (i b : ℕ) → getD xs i 0 ≡ suc b → i < length xs
 within [] i b e = absurd (omega arith)

@@ -22,11 +22,17 @@ impl<'a, T: Text> Cursor<'a, T> {
         ensures { λ r. ⌜ r ≡ token-from (rest (T·Text .bytes) (now (self .entry))) ⌝ }
     {
         let Some(first_char) = self.bump() else {
-            return Token { kind: TokenKind::Eof, len: 0 };
+            return Token {
+                kind: TokenKind::Eof,
+                len: 0,
+            };
         };
         let start = start_of(first_char, self.first(), self.second());
         let kind = self.finish(start, first_char);
-        Token { kind, len: self.pos_within_token() }
+        Token {
+            kind,
+            len: self.pos_within_token(),
+        }
     }
 
     /// Goes on after the first character of a token that starts so.
@@ -56,11 +62,18 @@ impl<'a, T: Text> Cursor<'a, T> {
                 self.bump();
                 self.bump();
                 let terminated = self.double_quoted_string();
-                TokenKind::QuotedIdent { terminated, uescape: true }
+                TokenKind::QuotedIdent {
+                    terminated,
+                    uescape: true,
+                }
             }
             Start::Word => self.ident(),
-            Start::Digit => TokenKind::Literal { kind: self.number(first_char) },
-            Start::Point => TokenKind::Literal { kind: self.eat_fractional() },
+            Start::Digit => TokenKind::Literal {
+                kind: self.number(first_char),
+            },
+            Start::Point => TokenKind::Literal {
+                kind: self.eat_fractional(),
+            },
             Start::TwoDots => {
                 self.bump();
                 TokenKind::DotDot
@@ -69,11 +82,16 @@ impl<'a, T: Text> Cursor<'a, T> {
             Start::Command => self.psql_command(),
             Start::Quote => {
                 let terminated = self.single_quoted_string(false);
-                TokenKind::Literal { kind: LiteralKind::Str { terminated } }
+                TokenKind::Literal {
+                    kind: LiteralKind::Str { terminated },
+                }
             }
             Start::DoubleQuote => {
                 let terminated = self.double_quoted_string();
-                TokenKind::QuotedIdent { terminated, uescape: false }
+                TokenKind::QuotedIdent {
+                    terminated,
+                    uescape: false,
+                }
             }
             Start::Symbol(kind) => kind,
         }
@@ -86,7 +104,10 @@ pub fn token_at<T: Text>(text: &T, place: u32) -> Option<Token>
     ensures { λ r. ⌜ r ≡ token-at (T·Text .bytes (now (text .entry))) place ⌝ }
 {
     if place == 0 && starts_with_mark(text) {
-        return Some(Token { kind: TokenKind::Whitespace, len: 3 });
+        return Some(Token {
+            kind: TokenKind::Whitespace,
+            len: 3,
+        });
     }
     if place >= text.len() {
         return None;
