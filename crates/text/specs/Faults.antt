@@ -5,6 +5,7 @@ use Rattle.text.specs.declared.fault.Layer.the-variants.{Text}
 use Rattle.text.specs.declared.fault.TextFault.{TextFault}
 use Rattle.text.specs.declared.fault.TextFault.the-variants.{TooLong, IllFormed}
 
+-- A text that is too long has its fault at the first byte too many.
 abbrev pub text-fault : TextFault → Fault
 text-fault TooLong = record { number = 1; place = longest; layer = Text }
 text-fault (IllFormed place) = record { number = 2; place = place; layer = Text }

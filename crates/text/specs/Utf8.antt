@@ -21,6 +21,7 @@ Row = List Range
 abbrev pub tail : Range
 tail = (0x80, 0xBF)
 
+-- The nine rows.
 abbrev pub table : List Row
 table =
     ((0x00, 0x7F) ∷ [])
@@ -56,6 +57,7 @@ sound-after n [] = 0
 sound-after (suc n) (b ∷ bs) = suc (sound-after n bs)
 sound-after zero (b ∷ bs) = cond (eqb (sequence (b ∷ bs)) 0) 0 (suc (sound-after (pred (sequence (b ∷ bs))) bs))
 
+-- The length of the well-formed front of a list: the place of the fault, if it is not the end.
 abbrev pub sound : List ℕ → ℕ
 sound bs = sound-after 0 bs
 

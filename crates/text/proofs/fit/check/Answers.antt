@@ -1,3 +1,4 @@
+-- A check's answer is the value that is defined, since what is found from each place on is what is found from the start.
 use mathlib.Core.Path.{_≡_, sym, ap, _∙_}
 use mathlib.Core.List.{List}
 use Prim.Native.Nat.{ℕ, _-_}
@@ -24,7 +25,6 @@ returns-then-len-gt-LONGEST g c =
 
 pub sub-result : need.sub-result
 sub-result g c =
-    let xs = g .T·Text .bytes (c .args .text .now) in
     let p = progress (c .loop-byte .checker .state) in
     let q = progress (c .feed .last .self .state) in
     let same = taken-ill p q (c .in-Some .byte) (c .feed .ensures) (sym (c .if-is-ill .ensures tt)) in

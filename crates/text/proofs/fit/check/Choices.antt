@@ -1,3 +1,4 @@
+-- What a check keeps true from byte to byte.
 use mathlib.Core.Path.{_≡_}
 use Prim.Native.Nat.{_-_, _≤_}
 use lib.ListN.{length, drop}
@@ -5,7 +6,6 @@ use Rattle.text.specs.Checker.{between, progress}
 use Rattle.text.proofs.Found.{found}
 use Rattle.text.proofs.fit.check.Given as given
 
--- what is found from here on is what is found from the start
 abbrev pub Inv-loop-byte : given.InvT-loop-byte
 Inv-loop-byte g l =
     let xs = g .T·Text .bytes (l .text) in

@@ -1,3 +1,4 @@
+-- A byte below the clipped length is the byte of the run.
 use borrow.Author.Needs.{needs}
 use Rattle.std.proofs.shelf.Maps.{nth-getD, nth-past}
 use Rattle.text.proofs.Clipped.{length-clip, getD-clip}

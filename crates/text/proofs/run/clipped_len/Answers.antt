@@ -1,3 +1,4 @@
+-- The length of a clipped run is the smaller of the two.
 use borrow.Author.Needs.{needs}
 use Rattle.text.proofs.Clipped.{length-clip}
 use Rattle.text.proofs.run.clipped_len.Needs as need

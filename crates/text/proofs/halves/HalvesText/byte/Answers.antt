@@ -1,3 +1,4 @@
+-- Before the seam a byte is of the front, after it of the back.
 use borrow.Author.Needs.{needs}
 use Rattle.text.proofs.Places.{nth-append-left, nth-append-right}
 use Rattle.text.proofs.halves.HalvesText.byte.Needs as need

@@ -1,3 +1,4 @@
+-- The lengths of the halves add up, and fit 32 bits.
 use borrow.Author.Needs.{needs}
 use lib.ListN.{length-append}
 use Rattle.text.proofs.Clipped.{length-clip}

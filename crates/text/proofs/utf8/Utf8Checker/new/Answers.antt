@@ -1,3 +1,4 @@
+-- A new checker stands between two sequences, and every run from there is told by the table.
 use mathlib.Core.Path.{refl}
 use Rattle.text.proofs.Runs.{runs-by-table}
 use Rattle.text.proofs.utf8.Utf8Checker.new.Needs as need
