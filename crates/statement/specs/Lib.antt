@@ -1,0 +1,4 @@
+pub mod Causes
+pub mod Roles
+pub mod Ends
+pub mod Statements
