@@ -1,0 +1,3 @@
+pub mod Clip
+pub mod Meanings
+pub mod Faults
