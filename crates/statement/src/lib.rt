@@ -165,3 +165,135 @@ impl Ends {
         None
     }
 }
+
+#[cfg(test)]
+mod tests {
+    use super::*;
+    use std::test::*;
+
+    fn one(kind: TokenKind) -> Token {
+        Token { kind, len: 1 }
+    }
+
+    fn ended(tokens: usize, solid: usize, cause: Cause) -> Option<Statement> {
+        Some(Statement {
+            tokens,
+            solid,
+            cause,
+        })
+    }
+
+    #[test]
+    fn semicolon_in_parentheses_ends_nothing() -> Result<(), Fail> {
+        // a(;)b;c
+        let tokens = [
+            one(TokenKind::Ident),
+            one(TokenKind::OpenParen),
+            one(TokenKind::Semi),
+            one(TokenKind::CloseParen),
+            one(TokenKind::Ident),
+            one(TokenKind::Semi),
+            one(TokenKind::Ident),
+        ];
+        let mut ends = Ends::new();
+        check_eq(ends.statement(&tokens), ended(6, 6, Cause::Semicolon))?;
+        check_eq(ends.statement(&tokens[6..]), ended(1, 1, Cause::Last))
+    }
+
+    #[test]
+    fn escaped_semicolon_ends_nothing() -> Result<(), Fail> {
+        // a\;b;
+        let escaped = Token {
+            kind: TokenKind::Semi,
+            len: 2,
+        };
+        let tokens = [
+            one(TokenKind::Ident),
+            escaped,
+            one(TokenKind::Ident),
+            one(TokenKind::Semi),
+        ];
+        check_eq(
+            Ends::new().statement(&tokens),
+            ended(4, 4, Cause::Semicolon),
+        )
+    }
+
+    #[test]
+    fn stray_closing_parenthesis_counts_for_nothing() -> Result<(), Fail> {
+        // )(;);
+        let tokens = [
+            one(TokenKind::CloseParen),
+            one(TokenKind::OpenParen),
+            one(TokenKind::Semi),
+            one(TokenKind::CloseParen),
+            one(TokenKind::Semi),
+        ];
+        check_eq(
+            Ends::new().statement(&tokens),
+            ended(5, 5, Cause::Semicolon),
+        )
+    }
+
+    #[test]
+    fn command_ends_in_parentheses_and_closes_them() -> Result<(), Fail> {
+        // (\g and a line end, then ;
+        let tokens = [
+            one(TokenKind::OpenParen),
+            Token {
+                kind: TokenKind::PsqlCommand { ends_query: true },
+                len: 2,
+            },
+            one(TokenKind::Whitespace),
+            one(TokenKind::Semi),
+        ];
+        let mut ends = Ends::new();
+        check_eq(ends.statement(&tokens), ended(2, 2, Cause::Command))?;
+        check_eq(ends.statement(&tokens[2..]), ended(2, 1, Cause::Semicolon))
+    }
+
+    #[test]
+    fn other_command_ends_nothing() -> Result<(), Fail> {
+        let command = Token {
+            kind: TokenKind::PsqlCommand { ends_query: false },
+            len: 2,
+        };
+        check_eq(
+            Ends::new().statement(&[command, one(TokenKind::LineComment)]),
+            ended(2, 1, Cause::Last),
+        )
+    }
+
+    #[test]
+    fn text_ends_inside_a_string() -> Result<(), Fail> {
+        let open = TokenKind::Literal {
+            kind: LiteralKind::Str { terminated: false },
+        };
+        let closed = TokenKind::Literal {
+            kind: LiteralKind::Str { terminated: true },
+        };
+        check_eq(
+            Ends::new().statement(&[one(TokenKind::Ident), one(open)]),
+            ended(2, 2, Cause::Unterminated),
+        )?;
+        check_eq(
+            Ends::new().statement(&[one(TokenKind::Ident), one(closed)]),
+            ended(2, 2, Cause::Last),
+        )
+    }
+
+    #[test]
+    fn text_ends_inside_a_comment() -> Result<(), Fail> {
+        let open = TokenKind::BlockComment { terminated: false };
+        check_eq(
+            Ends::new().statement(&[one(open)]),
+            ended(1, 0, Cause::Unterminated),
+        )
+    }
+
+    #[test]
+    fn no_tokens_make_no_statement() -> Result<(), Fail> {
+        let none: [Token; 0] = [];
+        check_eq(Ends::new().statement(&none), None)
+    }
+}
