@@ -22,11 +22,11 @@ state-after-push s [] t = refl
 state-after-push s (u ∷ ts) t = state-after-push (next-state s u) ts t
 
 -- the statement that ends after t, where one does
-abbrev ended : ℕ → ℕ → Token → Cause → Statement
+abbrev pub ended : ℕ → ℕ → Token → Cause → Statement
 ended p m t cause = record { tokens = p + 1; solid = m + cond (solid t) 1 0; cause = cause }
 
 -- what stands after t, from whether an end does
-abbrev beyond : ℕ → ℕ → ℕ → Token → List Token → Option Cause → List Statement
+abbrev pub beyond : ℕ → ℕ → ℕ → Token → List Token → Option Cause → List Statement
 beyond s p m t ts end =
     by-end end
     (statements-on (next-state s t) (p + 1) (m + cond (solid t) 1 0) ts)

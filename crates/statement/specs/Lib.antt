@@ -2,3 +2,4 @@ pub mod Causes
 pub mod Roles
 pub mod Ends
 pub mod Statements
+pub mod Laws

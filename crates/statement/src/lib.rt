@@ -3,6 +3,7 @@
 ghost use Prim.Native.Nat.{ℕ};
 ghost use Rattle.statement.specs.Causes.{cause-number};
 ghost use Rattle.statement.specs.Ends.{solid, unterminated, unterminated-role, first-state, next-state, own-end, last-cause, end-after};
+ghost use Rattle.statement.specs.Laws.{Shared};
 ghost use Rattle.statement.specs.Roles.{literal-role};
 ghost use Rattle.statement.specs.Statements.{state-after, statements, tokens-of};
 ghost use Rattle.std.specs.shelf.Maps.{nth};
@@ -145,6 +146,7 @@ impl Ends {
     pub fn statement(&mut self, tokens: &[Token]) -> Option<Statement>
         ensures first { λ r. ⌜ r ≡ nth (statements (now (self .entry) .depth) (now (tokens .entry))) 0 ⌝ }
         ensures state { λ r. ⌜ now (self .exit) .depth ≡ state-after (now (self .entry) .depth) (take (tokens-of r) (now (tokens .entry))) ⌝ }
+        ensures shared { λ _. ⌜ Shared ⌝ }
     {
         let mut passed = 0;
         let mut solid = 0;

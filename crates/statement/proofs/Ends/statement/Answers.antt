@@ -11,6 +11,7 @@ use Rattle.lexer.specs.declared.token.Token.{Token}
 use Rattle.lexer.specs.declared.token.TokenKind.the-variants.{Unknown}
 use Rattle.statement.specs.Ends.{solid, next-state}
 use Rattle.statement.specs.Statements.{state-after, statements, statements-on}
+use Rattle.statement.proofs.Shares.{shared}
 use Rattle.statement.proofs.Turns.{statements-more, statement-here, state-more, no-tokens}
 use Rattle.statement.proofs.Ends.statement.Needs as need
 use Rattle.statement.proofs.Ends.statement.Needs.{After-end-after, then-is-solid, else-is-solid}
@@ -43,6 +44,7 @@ returns-in-Some c =
     record {
       first = ap (λ n. Some record { tokens = c .loop-passed .passed + 1; solid = n; cause = c .in-Some .cause }) (counted a) ∙ sym found ∙ sofar a;
       state = state-now a;
+      shared = shared;
     }
 
 pub loop-passed-again : need.loop-passed-again
@@ -69,4 +71,4 @@ returns c =
     let gone : nth (statements s ts) 0 ≡ None =
     sym (c .loop-passed .inv .2)
     ∙ ap (λ l. nth (statements-on (c .loop-passed .self .depth) i (c .loop-passed .solid) l) 0) (drop-all i ts over) in
-    record { first = sym gone; state = c .loop-passed .inv .3 ∙ ap (state-after s) (take-all i ts over ∙ no-tokens s 0 0 ts gone) }
+    record { first = sym gone; state = c .loop-passed .inv .3 ∙ ap (state-after s) (take-all i ts over ∙ no-tokens s 0 0 ts gone); shared = shared }
