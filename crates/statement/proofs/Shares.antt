@@ -18,16 +18,16 @@ tokens-on : (s p m : ℕ) (t : Token) (ts : List Token) → tokens-in (statement
 tokens-on s p m t [] = omega arith
 tokens-on s p m t (u ∷ ts) =
     elim (end-after s t (eqb (length (u ∷ ts)) 0)) as (λ o. tokens-in (beyond s p m t (u ∷ ts) o) ≡ p + 1 + length (u ∷ ts)) [
-      None ↦ omega (arith, tokens-on (next-state s t) (p + 1) (m + cond (solid t) 1 0) u ts)
-    | Some cause ↦ omega (arith, tokens-on (next-state s t) 0 0 u ts)
+      | None ↦ omega (arith, tokens-on (next-state s t) (p + 1) (m + cond (solid t) 1 0) u ts)
+      | Some cause ↦ omega (arith, tokens-on (next-state s t) 0 0 u ts)
     ]
 
 solids-on : (s p m : ℕ) (t : Token) (ts : List Token) → solids-in (statements-on s p m (t ∷ ts)) ≡ m + solids (t ∷ ts)
 solids-on s p m t [] = omega arith
 solids-on s p m t (u ∷ ts) =
     elim (end-after s t (eqb (length (u ∷ ts)) 0)) as (λ o. solids-in (beyond s p m t (u ∷ ts) o) ≡ m + solids (t ∷ u ∷ ts)) [
-      None ↦ omega (arith, solids-on (next-state s t) (p + 1) (m + cond (solid t) 1 0) u ts)
-    | Some cause ↦ omega (arith, solids-on (next-state s t) 0 0 u ts)
+      | None ↦ omega (arith, solids-on (next-state s t) (p + 1) (m + cond (solid t) 1 0) u ts)
+      | Some cause ↦ omega (arith, solids-on (next-state s t) 0 0 u ts)
     ]
 
 pub shared : Shared

@@ -3,7 +3,7 @@
 ghost use Prim.Native.Nat.{ℕ};
 ghost use Rattle.statement.specs.Causes.{cause-number};
 ghost use Rattle.statement.specs.Ends.{solid, unterminated, unterminated-role, first-state, next-state, own-end, last-cause, end-after};
-ghost use Rattle.statement.specs.Laws.{Shared};
+ghost use Rattle.statement.specs.Laws.{DepthCounts, SemicolonEnds, Shared};
 ghost use Rattle.statement.specs.Roles.{literal-role};
 ghost use Rattle.statement.specs.Statements.{state-after, statements, tokens-of};
 ghost use Rattle.std.specs.shelf.Maps.{nth};
@@ -100,9 +100,12 @@ pub struct Ends {
 }
 
 impl Ends {
-    /// The rule before the first token.
+    /// The rule before the first token. From here its state counts the parentheses left open, and a `;` ends a
+    /// statement exactly where there are none.
     pub fn new() -> Ends
-        ensures { λ r. ⌜ r .depth ≡ first-state ⌝ }
+        ensures state { λ r. ⌜ r .depth ≡ first-state ⌝ }
+        ensures counts { λ _. ⌜ DepthCounts ⌝ }
+        ensures semicolon { λ _. ⌜ SemicolonEnds ⌝ }
     {
         Ends { depth: 0 }
     }
