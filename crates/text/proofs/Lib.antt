@@ -1,2 +1,3 @@
 pub mod Clipped
 pub mod Places
+pub mod Leads

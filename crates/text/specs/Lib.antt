@@ -1,3 +1,5 @@
 pub mod Clip
 pub mod Meanings
 pub mod Faults
+pub mod Utf8
+pub mod Checker

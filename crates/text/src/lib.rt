@@ -4,6 +4,7 @@ mod fault;
 mod flat;
 mod halves;
 mod run;
+mod utf8;
 
 pub use fault::Fault;
 pub use fault::Layer;
@@ -13,6 +14,7 @@ pub use flat::FlatText;
 pub use halves::Halves;
 pub use halves::HalvesText;
 pub use run::LONGEST;
+pub use utf8::Utf8Checker;
 ghost use Prim.Native.Nat.{ℕ, _^_, _<_};
 ghost use Rattle.std.specs.shelf.Maps.{nth};
 ghost use lib.ListN.{length};
