@@ -1,0 +1,3 @@
+//! The program's lines, from a text.
+
+mod lines;
