@@ -1,3 +1,4 @@
 //! The program's lines, from a text.
 
+mod kinds;
 mod lines;

@@ -1,6 +1,6 @@
 use mathlib.Core.Path.{ap, sym}
-use Rattle.listing.specs.Lines.{kind-name}
-use Rattle.listing.proofs.lines.kind_name.Needs as need
+use Rattle.listing.specs.Kinds.{kind-name}
+use Rattle.listing.proofs.kinds.kind_name.Needs as need
 
 pub returns-in-PsqlCommand : need.returns-in-PsqlCommand
 returns-in-PsqlCommand c = sym (ap kind-name (c .in-PsqlCommand .is))

@@ -1,6 +1,6 @@
 use mathlib.Core.Path.{ap, sym}
-use Rattle.listing.specs.Lines.{literal-name}
-use Rattle.listing.proofs.lines.literal_name.Needs as need
+use Rattle.listing.specs.Kinds.{literal-name}
+use Rattle.listing.proofs.kinds.literal_name.Needs as need
 
 pub returns-in-NationalStr : need.returns-in-NationalStr
 returns-in-NationalStr c = sym (ap literal-name (c .in-NationalStr .is))
