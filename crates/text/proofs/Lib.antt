@@ -1,3 +1,4 @@
 pub mod Clipped
 pub mod Places
 pub mod Leads
+pub mod Found

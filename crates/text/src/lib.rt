@@ -1,6 +1,7 @@
 //! Texts: finite sequences of bytes that can be asked for their length and for the byte at a place.
 
 mod fault;
+mod fit;
 mod flat;
 mod halves;
 mod run;
@@ -9,6 +10,7 @@ mod utf8;
 pub use fault::Fault;
 pub use fault::Layer;
 pub use fault::TextFault;
+pub use fit::check;
 pub use flat::Flat;
 pub use flat::FlatText;
 pub use halves::Halves;
