@@ -11,7 +11,7 @@ use text::TextFault;
 pub const LONGEST_INPUT: u32 = 65536;
 
 /// Why the program refuses its input.
-#[derive(Clone, Copy, PartialEq, Debug)]
+#[derive(Clone, Copy)]
 pub enum ProgramFault {
     /// The input is no fit text.
     InText(TextFault),
