@@ -41,3 +41,27 @@ past w t (Some cause) = record { place = w .place + t .len; tokens = w .tokens +
 -- the whole text, once all its tokens are passed
 abbrev pub total-line : Walk → TotalLine
 total-line w = record { bytes = w .place; tokens = w .tokens; ends = w .ends }
+
+-- A token is a text's last if it ends where the text does. `size` is the text's length in bytes.
+abbrev pub end-there : ℕ → Walk → Token → Option Cause
+end-there size w t = end-after (w .rule .depth) t (eqb (w .place + t .len) size)
+
+abbrev pub walked : ℕ → Walk → List Token → Walk
+walked size w [] = w
+walked size w (t ∷ ts) = walked size (past w t (end-there size w t)) ts
+
+-- a token's line, and after it the end's, if a statement ends there
+abbrev pub end-lines : Walk → Token → Option Cause → List ℕ
+end-lines w t None = []
+end-lines w t (Some cause) = end-bytes (end-line w t cause)
+
+abbrev pub token-lines : ℕ → Walk → Token → List ℕ
+token-lines size w t = token-bytes (record { place = w .place; token = t }) ++ end-lines w t (end-there size w t)
+
+abbrev pub lines-on : ℕ → Walk → List Token → List ℕ
+lines-on size w [] = []
+lines-on size w (t ∷ ts) = token-lines size w t ++ lines-on size (past w t (end-there size w t)) ts
+
+-- the listing of a text of `size` bytes that has these tokens
+abbrev pub listed : ℕ → List Token → List ℕ
+listed size ts = lines-on size at-front ts ++ total-bytes (total-line (walked size at-front ts))
