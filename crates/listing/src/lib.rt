@@ -7,6 +7,7 @@ mod walk;
 
 ghost use Prim.Native.Nat.{ℕ, _+_, _≤_, _<_};
 ghost use Rattle.listing.specs.Listed.{Answers, Lists, Refuses, admitted, in-text};
+ghost use Rattle.listing.specs.Walk.{Within, end-there, past, token-lines};
 ghost use Rattle.std.specs.Of.String.{string-bytes};
 ghost use Rattle.std.specs.Options.{Cases};
 ghost use Rattle.std.specs.Options.{Cases as BySome};
@@ -67,4 +68,34 @@ fn refusal(heap: Global, fault: ProgramFault) -> Result<Listing, AllocError>
     let mut lines = String::new(heap);
     push(&mut lines, RefusedLine { number: fault.number, place: fault.place })?;
     Ok(Listing { lines, refused: true })
+}
+
+/// Writes the line of a token, and the end's if a statement ends after it. `size` is the text's length.
+fn list_token(lines: &mut String, walk: &mut Walk, token: Token, size: u32) -> Result<(), AllocError>
+    requires within { ⌜ Within (now walk) ⌝ }
+    requires some { ⌜ 0 < token .len ⌝ }
+    requires inside { ⌜ now walk .place + token .len ≤ size ⌝ }
+    ensures lines { λ r. ⌜ made r (λ _. string-bytes (now (lines .exit)) ≡ string-bytes (now (lines .entry)) ++ token-lines size (now (walk .entry)) token) ⌝ }
+    ensures walk { λ r. ⌜ made r (λ _. now (walk .exit) ≡ past (now (walk .entry)) token (end-there size (now (walk .entry)) token)) ⌝ }
+{
+    let place = walk.place;
+    push(lines, TokenLine { place, token })?;
+    if let Some(end) = walk.pass(token, place + token.len == size) {
+        push(lines, end)?;
+    }
+    Ok(())
+}
+
+/// The lines of a fit text.
+fn list_tokens<T: Text>(heap: Global, text: &T) -> Result<Listing, AllocError>
+    ensures { λ r. ⌜ made r (Lists (T·Text .bytes (now (text .entry)))) ⌝ }
+{
+    let size = text.len();
+    let mut lines = String::new(heap);
+    let mut walk = Walk::new();
+    while let Some(token) = token_at(text, walk.place) {
+        list_token(&mut lines, &mut walk, token, size)?;
+    }
+    push(&mut lines, walk.total_line())?;
+    Ok(Listing { lines, refused: false })
 }
