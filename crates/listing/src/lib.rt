@@ -160,3 +160,6 @@ pub fn list_input(heap: Global, input: &[u8]) -> Result<Listing, AllocError>
         Err(fault) => refusal(heap, fault),
     }
 }
+
+#[cfg(test)]
+mod tests;
