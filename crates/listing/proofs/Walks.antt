@@ -13,7 +13,7 @@ use Rattle.statement.specs.Ends.{solid}
 use Rattle.listing.specs.declared.lines.EndLine.{EndLine}
 use Rattle.listing.specs.declared.walk.Walk.{Walk}
 use Rattle.listing.specs.Lines.{end-bytes, total-bytes}
-use Rattle.listing.specs.Walk.{Within, at-front, end-line, end-lines, end-there, past, walked, token-lines, lines-on, total-line, listed}
+use Rattle.listing.specs.Walk.{Within, at-front, end-line, end-there, past, lines-of-end, lines-of-token, total-line}
 use Rattle.listing.specs.Listed.{lengths, NoneEmpty}
 
 -- one piece of writing after another
@@ -22,9 +22,9 @@ written-twice before mid after a b c first second same =
     second ∙ ap (λ l. l ++ b) first ∙ append-assoc before a b ∙ ap (λ l. before ++ (a ++ l)) same
 
 -- the line of an end, where a statement ends
-pub end-lines-some : (w : Walk) (t : Token) (end : Option Cause) (l : EndLine) → mapped (end-line w t) end ≡ Some l → end-lines w t end ≡ end-bytes l
-end-lines-some w t None l e = let z : _≡_ {A = ℕ} 0 1 = cc in absurd (omega arith)
-end-lines-some w t (Some cause) l e = let same : end-line w t cause ≡ l = cc in ap end-bytes same
+pub lines-of-end-some : (w : Walk) (t : Token) (end : Option Cause) (l : EndLine) → mapped (end-line w t) end ≡ Some l → lines-of-end w t end ≡ end-bytes l
+lines-of-end-some w t None l e = let z : _≡_ {A = ℕ} 0 1 = cc in absurd (omega arith)
+lines-of-end-some w t (Some cause) l e = let same : end-line w t cause ≡ l = cc in ap end-bytes same
 
 -- the numbers stay within the bytes passed
 pub within-past : (w : Walk) (t : Token) (end : Option Cause) → 0 < t .len → Within w → Within (past w t end)
@@ -34,16 +34,25 @@ within-past w t None h b =
 within-past w t (Some cause) h b =
     record { start = omega arith; tokens = omega arith; ends = omega arith; passed = omega arith; solid = omega arith }
 
+-- a walk over a list of tokens, and the lines that it writes before the total
+abbrev pub walked : ℕ → Walk → List Token → Walk
+walked size w [] = w
+walked size w (t ∷ ts) = walked size (past w t (end-there size w t)) ts
+
+abbrev pub lines-on : ℕ → Walk → List Token → List ℕ
+lines-on size w [] = []
+lines-on size w (t ∷ ts) = lines-of-token size w t ++ lines-on size (past w t (end-there size w t)) ts
+
 module _ (size : ℕ) where
   pub walked-push : (w : Walk) (ts : List Token) (t : Token) → walked size w (ts ++ t ∷ []) ≡ past (walked size w ts) t (end-there size (walked size w ts) t)
   walked-push w [] t = refl
   walked-push w (u ∷ ts) t = walked-push (past w u (end-there size w u)) ts t
 
-  pub lines-push : (w : Walk) (ts : List Token) (t : Token) → lines-on size w (ts ++ t ∷ []) ≡ lines-on size w ts ++ token-lines size (walked size w ts) t
-  lines-push w [] t = append-nil (token-lines size w t)
+  pub lines-push : (w : Walk) (ts : List Token) (t : Token) → lines-on size w (ts ++ t ∷ []) ≡ lines-on size w ts ++ lines-of-token size (walked size w ts) t
+  lines-push w [] t = append-nil (lines-of-token size w t)
   lines-push w (u ∷ ts) t =
-      ap (λ l. token-lines size w u ++ l) (lines-push (past w u (end-there size w u)) ts t)
-      ∙ sym (append-assoc (token-lines size w u) (lines-on size (past w u (end-there size w u)) ts) (token-lines size (walked size (past w u (end-there size w u)) ts) t))
+      ap (λ l. lines-of-token size w u ++ l) (lines-push (past w u (end-there size w u)) ts t)
+      ∙ sym (append-assoc (lines-of-token size w u) (lines-on size (past w u (end-there size w u)) ts) (lines-of-token size (walked size (past w u (end-there size w u)) ts) t))
 
 pub lengths-push : (ts : List Token) (t : Token) → lengths (ts ++ t ∷ []) ≡ lengths ts + t .len
 lengths-push [] t = omega arith
@@ -74,18 +83,18 @@ pub walking-none : (size : ℕ) → Walking size at-front []
 walking-none size = record { tokens = []; none-empty = tt; walk = refl; lines = refl }
 
 module _ (size : ℕ) (w : Walk) (out : List ℕ) (so : Walking size w out) where
-  pub walking-more : (v : Walk) (more : List ℕ) (t : Token) → 0 < t .len → v ≡ past w t (end-there size w t) → more ≡ out ++ token-lines size w t → Walking size v more
+  pub walking-more : (v : Walk) (more : List ℕ) (t : Token) → 0 < t .len → v ≡ past w t (end-there size w t) → more ≡ out ++ lines-of-token size w t → Walking size v more
   walking-more v more t some onward written =
       record {
         tokens = so .tokens ++ t ∷ [];
         none-empty = none-empty-push (so .tokens) t (so .none-empty) some;
         walk = onward ∙ ap (λ u. past u t (end-there size u t)) (so .walk) ∙ sym (walked-push size at-front (so .tokens) t);
-        lines = written ∙ ap (λ l. l ++ token-lines size w t) (so .lines) ∙ ap (λ u. lines-on size at-front (so .tokens) ++ token-lines size u t) (so .walk) ∙ sym (lines-push size at-front (so .tokens) t);
+        lines = written ∙ ap (λ l. l ++ lines-of-token size w t) (so .lines) ∙ ap (λ u. lines-on size at-front (so .tokens) ++ lines-of-token size u t) (so .walk) ∙ sym (lines-push size at-front (so .tokens) t);
       }
 
   pub walking-cover : w .place ≡ size → lengths (so .tokens) ≡ size
   walking-cover e = omega (arith, ap (λ u. u .place) (so .walk), place-walked size at-front (so .tokens))
 
-  pub walking-all : (more : List ℕ) → more ≡ out ++ total-bytes (total-line w) → more ≡ listed size (so .tokens)
+  pub walking-all : (more : List ℕ) → more ≡ out ++ total-bytes (total-line w) → more ≡ lines-on size at-front (so .tokens) ++ total-bytes (total-line (walked size at-front (so .tokens)))
   walking-all more written =
       written ∙ ap (λ l. l ++ total-bytes (total-line w)) (so .lines) ∙ ap (λ u. lines-on size at-front (so .tokens) ++ total-bytes (total-line u)) (so .walk)

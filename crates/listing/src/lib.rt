@@ -7,7 +7,7 @@ mod walk;
 
 ghost use Prim.Native.Nat.{ℕ, _+_, _≤_, _<_};
 ghost use Rattle.listing.specs.Listed.{Answers, Lists, Refuses, admitted, in-text};
-ghost use Rattle.listing.specs.Walk.{Within, end-there, past, token-lines};
+ghost use Rattle.listing.specs.Walk.{Within, end-there, past, lines-of-token};
 ghost use Rattle.std.specs.Of.String.{string-bytes};
 ghost use Rattle.std.specs.Options.{Cases};
 ghost use Rattle.std.specs.Options.{Cases as BySome};
@@ -95,7 +95,7 @@ fn list_token(
     requires within { ⌜ Within (now walk) ⌝ }
     requires some { ⌜ 0 < token .len ⌝ }
     requires inside { ⌜ now walk .place + token .len ≤ size ⌝ }
-    ensures lines { λ r. ⌜ made r (λ _. string-bytes (now (lines .exit)) ≡ string-bytes (now (lines .entry)) ++ token-lines size (now (walk .entry)) token) ⌝ }
+    ensures lines { λ r. ⌜ made r (λ _. string-bytes (now (lines .exit)) ≡ string-bytes (now (lines .entry)) ++ lines-of-token size (now (walk .entry)) token) ⌝ }
     ensures walk { λ r. ⌜ made r (λ _. now (walk .exit) ≡ past (now (walk .entry)) token (end-there size (now (walk .entry)) token)) ⌝ }
 {
     let place = walk.place;

@@ -8,6 +8,7 @@ use Rattle.std.specs.Of.String.{string-bytes}
 use Rattle.listing.specs.Lines.{total-bytes}
 use Rattle.listing.specs.Walk.{Within, end-there}
 use Rattle.listing.proofs.Walks.{Walking, within-past, place-past, walking-none, walking-more, walking-cover, walking-all}
+use Rattle.listing.proofs.Statements.{walk-lists}
 use Rattle.listing.proofs.list_tokens.Needs as need
 
 pub loop-token-again : need.loop-token-again
@@ -32,10 +33,11 @@ returns g c =
     let inv = c .loop-token .inv in
     let out = string-bytes (c .loop-token .lines) in
     let so : Walking size w out = subst (λ n. Walking n w out) (inv .0) (inv .3) in
+    let cover = walking-cover size w out so (omega (arith, inv .0, inv .1, c .in-rest .ensures tt)) in
     record {
       refused = refl;
       tokens = so .tokens;
-      cover = walking-cover size w out so (omega (arith, inv .0, inv .1, c .in-rest .ensures tt));
+      cover = cover;
       none-empty = so .none-empty;
-      lines = walking-all size w out so (string-bytes (c .push .last .lines)) (c .in-Continue-push .ensures tt ∙ ap (λ l. out ++ total-bytes l) (c .total-line .ensures));
+      lines = walking-all size w out so (string-bytes (c .push .last .lines)) (c .in-Continue-push .ensures tt ∙ ap (λ l. out ++ total-bytes l) (c .total-line .ensures)) ∙ walk-lists size (so .tokens) cover (so .none-empty);
     }
