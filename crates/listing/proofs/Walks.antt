@@ -14,7 +14,8 @@ use Rattle.listing.specs.declared.lines.EndLine.{EndLine}
 use Rattle.listing.specs.declared.walk.Walk.{Walk}
 use Rattle.listing.specs.Lines.{end-bytes, total-bytes}
 use Rattle.listing.specs.Walk.{Within, at-front, end-line, end-there, past, lines-of-end, lines-of-token, total-line}
-use Rattle.listing.specs.Listed.{lengths, NoneEmpty}
+use Rattle.listing.specs.Listed.{lengths, NoneEmpty, Reads}
+use Rattle.listing.specs.Standin.{token-at}
 
 -- one piece of writing after another
 pub written-twice : (before mid after a b c : List ℕ) → mid ≡ before ++ a → after ≡ mid ++ b → b ≡ c → after ≡ before ++ (a ++ c)
@@ -72,28 +73,38 @@ place-walked size w [] = omega arith
 place-walked size w (t ∷ ts) =
     omega (arith, place-walked size (past w t (end-there size w t)) ts, place-past w t (end-there size w t))
 
+pub reads-push : (bs : List ℕ) (place : ℕ) (ts : List Token) (t : Token) → Reads bs place ts → token-at bs (place + lengths ts) ≡ Some t → Reads bs place (ts ++ t ∷ [])
+reads-push bs place [] t r there = (ap (token-at bs) (let e : place ≡ place + 0 = omega arith in e) ∙ there, tt)
+reads-push bs place (u ∷ ts) t r there =
+    (r .0, reads-push bs (place + u .len) ts t (r .1) (ap (token-at bs) (let e : place + u .len + lengths ts ≡ place + (u .len + lengths ts) = omega arith in e) ∙ there))
+
 -- a walk has passed some tokens, and their lines are written
-pub record Walking (size : ℕ) (w : Walk) (out : List ℕ) : Type 0 where
+pub record Walking (bs : List ℕ) (size : ℕ) (w : Walk) (out : List ℕ) : Type 0 where
   pub tokens : List Token
+  pub reads : Reads bs 0 tokens
   pub none-empty : NoneEmpty tokens
   pub walk : w ≡ walked size at-front tokens
   pub lines : out ≡ lines-on size at-front tokens
 
-pub walking-none : (size : ℕ) → Walking size at-front []
-walking-none size = record { tokens = []; none-empty = tt; walk = refl; lines = refl }
+pub walking-none : (bs : List ℕ) (size : ℕ) → Walking bs size at-front []
+walking-none bs size = record { tokens = []; reads = tt; none-empty = tt; walk = refl; lines = refl }
 
-module _ (size : ℕ) (w : Walk) (out : List ℕ) (so : Walking size w out) where
-  pub walking-more : (v : Walk) (more : List ℕ) (t : Token) → 0 < t .len → v ≡ past w t (end-there size w t) → more ≡ out ++ lines-of-token size w t → Walking size v more
-  walking-more v more t some onward written =
+module _ (bs : List ℕ) (size : ℕ) (w : Walk) (out : List ℕ) (so : Walking bs size w out) where
+  passed : w .place ≡ lengths (so .tokens)
+  passed = omega (arith, ap (λ u. u .place) (so .walk), place-walked size at-front (so .tokens))
+
+  pub walking-more : (v : Walk) (more : List ℕ) (t : Token) → token-at bs (w .place) ≡ Some t → 0 < t .len → v ≡ past w t (end-there size w t) → more ≡ out ++ lines-of-token size w t → Walking bs size v more
+  walking-more v more t there some onward written =
       record {
         tokens = so .tokens ++ t ∷ [];
+        reads = reads-push bs 0 (so .tokens) t (so .reads) (ap (token-at bs) (let e : 0 + lengths (so .tokens) ≡ w .place = omega (arith, passed) in e) ∙ there);
         none-empty = none-empty-push (so .tokens) t (so .none-empty) some;
         walk = onward ∙ ap (λ u. past u t (end-there size u t)) (so .walk) ∙ sym (walked-push size at-front (so .tokens) t);
         lines = written ∙ ap (λ l. l ++ lines-of-token size w t) (so .lines) ∙ ap (λ u. lines-on size at-front (so .tokens) ++ lines-of-token size u t) (so .walk) ∙ sym (lines-push size at-front (so .tokens) t);
       }
 
   pub walking-cover : w .place ≡ size → lengths (so .tokens) ≡ size
-  walking-cover e = omega (arith, ap (λ u. u .place) (so .walk), place-walked size at-front (so .tokens))
+  walking-cover e = omega (arith, passed)
 
   pub walking-all : (more : List ℕ) → more ≡ out ++ total-bytes (total-line w) → more ≡ lines-on size at-front (so .tokens) ++ total-bytes (total-line (walked size at-front (so .tokens)))
   walking-all more written =

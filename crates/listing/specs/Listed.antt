@@ -6,6 +6,7 @@ use Prim.Native.Nat.{ℕ, _+_, _<_}
 use lib.Dec.{ltb}
 use lib.ListN.{length, take, drop}
 use Rattle.std.specs.Of.String.{string-bytes}
+use Rattle.std.specs.declared.option.Option.the-variants.{Some}
 use Rattle.std.specs.declared.result.Result.{Result}
 use Rattle.std.specs.declared.result.Result.the-variants.{Ok, Err}
 use Rattle.text.specs.Fit.{checked}
@@ -18,12 +19,18 @@ use Rattle.listing.specs.declared.Listing.{Listing}
 use Rattle.listing.specs.declared.fault.ProgramFault.{ProgramFault}
 use Rattle.listing.specs.declared.fault.ProgramFault.the-variants.{InText, InputTooLong}
 use Rattle.listing.specs.Faults.{longest-input, program-fault}
+use Rattle.listing.specs.Standin.{token-at}
 use Rattle.listing.specs.Lines.{token-bytes, end-bytes, total-bytes, refused-bytes}
 
 -- what the tokens of a list cover
 abbrev pub lengths : List Token → ℕ
 lengths [] = 0
 lengths (t ∷ ts) = t .len + lengths ts
+
+-- tokens read one after another, each where the one before it ends
+abbrev pub Reads : List ℕ → ℕ → List Token → Type 0
+Reads bs place [] = Unit {0}
+Reads bs place (t ∷ ts) = (token-at bs place ≡ Some t) × Reads bs (place + t .len) ts
 
 abbrev pub NoneEmpty : List Token → Type 0
 NoneEmpty [] = Unit {0}
@@ -54,10 +61,11 @@ pub record Refuses (fault : ProgramFault) (l : Listing) : Type 0 where
   pub refused : l .refused ≡ true
   pub line : string-bytes (l .lines) ≡ refused-bytes (record { number = program-fault fault .number; place = program-fault fault .place })
 
--- the lines of a text: tokens that cover it, none of them empty
+-- the lines of a text: its tokens are read from its start to its end
 pub record Lists (bs : List ℕ) (l : Listing) : Type 0 where
   pub refused : l .refused ≡ false
   pub tokens : List Token
+  pub reads : Reads bs 0 tokens
   pub cover : lengths tokens ≡ length bs
   pub none-empty : NoneEmpty tokens
   pub lines : string-bytes (l .lines) ≡ listed tokens

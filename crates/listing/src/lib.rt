@@ -7,6 +7,7 @@ mod walk;
 
 ghost use Prim.Native.Nat.{ℕ, _+_, _≤_, _<_};
 ghost use Rattle.listing.specs.Listed.{Answers, Lists, Refuses, admitted, in-text};
+ghost use Rattle.listing.specs.Standin.{token-at};
 ghost use Rattle.listing.specs.Walk.{Within, end-there, past, lines-of-token};
 ghost use Rattle.std.specs.Of.String.{string-bytes};
 ghost use Rattle.std.specs.Options.{Cases};
@@ -44,7 +45,8 @@ pub struct Listing {
 }
 
 fn token_at<T: Text>(text: &T, place: u32) -> Option<Token>
-    ensures { λ r. ⌜ BySome r (length (T·Text .bytes (now (text .entry))) ≤ place) (λ t. (0 < t .len) × (place + t .len ≤ length (T·Text .bytes (now (text .entry))))) ⌝ }
+    ensures value { λ r. ⌜ r ≡ token-at (T·Text .bytes (now (text .entry))) place ⌝ }
+    ensures inside { λ r. ⌜ BySome r (length (T·Text .bytes (now (text .entry))) ≤ place) (λ t. (0 < t .len) × (place + t .len ≤ length (T·Text .bytes (now (text .entry))))) ⌝ }
 {
     if place < text.len() {
         Some(Token {
