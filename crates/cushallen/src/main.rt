@@ -1,5 +1,8 @@
 //! The program: lists the tokens and the statement ends of the script on standard input.
 
+ghost use Prim.Native.Nat.{_≤_};
+ghost use Rattle.std.specs.Of.Vec.{vec-len};
+ghost use Rattle.std.specs.Vec.{made};
 use listing::LONGEST_INPUT;
 use listing::list_input;
 use std::alloc::Global;
@@ -11,7 +14,9 @@ use std::io::Write;
 const ENOUGH: usize = LONGEST_INPUT as usize + 1;
 
 /// Standard input, or its first `ENOUGH` bytes.
-fn read_input(rt: &LibcRuntime, heap: Global) -> Result<Vec<u8>, AnyError> {
+fn read_input(rt: &LibcRuntime, heap: Global) -> Result<Vec<u8>, AnyError>
+    ensures { λ r. ⌜ made r (λ v. vec-len v ≤ 65537) ⌝ }
+{
     let mut input = Vec::new(heap);
     let mut chunk = [0u8; 4096];
     let mut stdin = rt.stdin();
