@@ -1,1 +1,13 @@
+mod Comments
+mod Dollars
+mod Moves
+mod Numbers
+mod PsqlArgs
+mod PsqlLens
+mod PsqlWords
+mod Quotes
+mod Rest
+mod Runs
+mod Starts
 mod Table
+mod Within
