@@ -9,7 +9,7 @@ mod short;
 
 pub use chance::Chance;
 pub use pieces::Pieces;
-pub use psql::{commands, ENDING, LINES, OTHERS, PIPED};
+pub use psql::{ENDING, LINES, OTHERS, PIPED, commands, near_misses};
 pub use scripts::{Scripts, Sizes};
 pub use short::{Characters, Sequences, short_families};
 
