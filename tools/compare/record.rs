@@ -1,7 +1,7 @@
 //! Records what the Rust lexer answers for some thousand telling texts, for the program `replay`.
 //!   record FILE [SEED]
-//! For each text: a line `text` with its bytes in hexadecimal, the lines of its listing, and an empty line. A text is kept if it
-//! is in the fixed list or shows something that none before it did. Fails if the kept ones do not show all that `demands` names.
+//! For each text: a line with its bytes in hexadecimal digits, the lines of its listing, and an empty line. A text is kept if it is
+//! in the fixed list or shows something that none before it did. Fails if the kept ones do not show all that `demands` names.
 
 use feature::{Features, KNOWN, features};
 use std::io::Write;
@@ -86,7 +86,6 @@ impl Record {
         let listing = driver::listing(text);
         self.shown.append(&mut features(text, str::from_utf8(&listing).unwrap()));
         self.count += 1;
-        self.lines.extend_from_slice(b"text ");
         for byte in text {
             write!(self.lines, "{byte:02x}").unwrap();
         }
