@@ -1,7 +1,9 @@
 //! The records of a list, one after the other.
 
+ghost use Prim.Native.Nat.{_<_};
 ghost use Rattle.records.specs.Record.{first-record, line-length, lines-length, parts, split-at};
-ghost use Rattle.std.specs.Options.{mapped};
+ghost use Rattle.std.specs.Options.{Cases as BySome, mapped};
+ghost use lib.ListN.{length};
 ghost use mathlib.Core.Bool.{true};
 ghost use mathlib.Core.Path.{_≡_};
 
@@ -17,7 +19,8 @@ pub struct Record<'a> {
 
 /// The first record of a list; none if the list has no whole record.
 pub fn next_record(list: &[u8]) -> Option<Record<'_>>
-    ensures { λ r. ⌜ mapped parts r ≡ first-record (now (list .entry)) ⌝ }
+    ensures value { λ r. ⌜ mapped parts r ≡ first-record (now (list .entry)) ⌝ }
+    ensures shorter { λ r. ⌜ BySome r (Unit {0}) (λ x. length (now (x .rest)) < length (now (list .entry))) ⌝ }
 {
     let (digits, after) = split(list, line_length(list))?;
     let (listing, rest) = split(after, lines_length(after))?;
@@ -30,7 +33,8 @@ pub fn next_record(list: &[u8]) -> Option<Record<'_>>
 
 /// What stands before a place and what after it; none if the place is past the end.
 fn split(bytes: &[u8], place: usize) -> Option<(&[u8], &[u8])>
-    ensures { λ r. ⌜ mapped (λ p. (now (p .0), now (p .1))) r ≡ split-at place (now (bytes .entry)) ⌝ }
+    ensures value { λ r. ⌜ mapped (λ p. (now (p .0), now (p .1))) r ≡ split-at place (now (bytes .entry)) ⌝ }
+    ensures shorter { λ r. ⌜ BySome r (Unit {0}) (λ p. length (now (p .1)) < length (now (bytes .entry))) ⌝ }
 {
     if place < bytes.len() {
         Some((&bytes[0..place], &bytes[place + 1..]))
