@@ -12,7 +12,7 @@ mod mend;
 
 unsafe extern "C" {
     /// Writes the listing of a text to `out`, as much as there is room for, and answers its length.
-    fn cushallen_listing(input: *const u8, input_length: usize, out: *mut u8, out_length: usize) -> u32;
+    fn cushallen_listing(input: *const u8, input_length: usize, out: *mut u8, out_length: usize) -> usize;
 }
 
 /// The longest texts have 65,536 tokens, each with an end; no two lines together pass 100 bytes.
@@ -128,7 +128,7 @@ impl Comparison {
         // SAFETY: both slices are alive and as long as said, and nothing else holds `ours`.
         self.ours_length = unsafe {
             cushallen_listing(self.text.as_ptr(), self.text.len(), self.ours.as_mut_ptr(), self.ours.len())
-        } as usize;
+        };
         if self.ours() == self.theirs {
             Answer::Same
         } else if self.parts_as_intended() {

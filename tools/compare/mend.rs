@@ -28,12 +28,6 @@ pub fn plain_escapes(text: &[u8], place: usize) -> Option<Vec<u8>> {
     (plain != text).then_some(plain)
 }
 
-/// Whether an escape in some option list of a text changes its listing.
-pub fn changes(text: &[u8], listing: &[u8]) -> bool {
-    let slashes = (0..text.len()).filter(|&place| text[place] == b'\\');
-    slashes.filter_map(|place| plain_escapes(text, place)).any(|plain| driver::listing(&plain) != listing)
-}
-
 /// How far the `(` stands from the start of `\g (` or `\gx (`.
 fn options_start(text: &[u8]) -> Option<usize> {
     let rest = text.strip_prefix(b"\\g")?;

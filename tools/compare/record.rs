@@ -77,7 +77,7 @@ impl Record {
     fn keep_if_new(&mut self, text: &[u8]) {
         let listing = driver::listing(text);
         let features = features(text, str::from_utf8(&listing).unwrap());
-        if !features.is_subset(&self.shown) && !mend::changes(text, &listing) {
+        if !features.is_subset(&self.shown) && !escapes_matter(text, &listing) {
             self.keep(text);
         }
     }
@@ -93,6 +93,12 @@ impl Record {
         self.lines.extend_from_slice(&listing);
         self.lines.push(b'\n');
     }
+}
+
+/// Whether an escape in some option list of a text changes its listing; there our lexer parts from the Rust on purpose.
+fn escapes_matter(text: &[u8], listing: &[u8]) -> bool {
+    let slashes = (0..text.len()).filter(|&place| text[place] == b'\\');
+    slashes.filter_map(|place| mend::plain_escapes(text, place)).any(|plain| driver::listing(&plain) != listing)
 }
 
 /// What the recorded texts have to show.

@@ -2,21 +2,27 @@
 
 use crate::Family;
 
-/// All sequences of at most `most` symbols, each sequence after the bytes `before`.
+/// All sequences of at most `most` symbols, each between the bytes `before` and `after`.
 pub struct Sequences {
     pub name: String,
     pub before: Vec<u8>,
     pub symbols: Vec<Vec<u8>>,
     pub most: u32,
+    pub after: Vec<u8>,
 }
 
 impl Sequences {
     fn of(name: &str, before: &str, symbols: &[&str], most: u32) -> Box<dyn Family> {
+        Sequences::between(name, before, symbols, most, "")
+    }
+
+    fn between(name: &str, before: &str, symbols: &[&str], most: u32, after: &str) -> Box<dyn Family> {
         Box::new(Sequences {
             name: name.to_string(),
             before: before.as_bytes().to_vec(),
             symbols: symbols.iter().map(|symbol| symbol.as_bytes().to_vec()).collect(),
             most,
+            after: after.as_bytes().to_vec(),
         })
     }
 
@@ -26,6 +32,7 @@ impl Sequences {
             before: Vec::new(),
             symbols: bytes.map(|byte| vec![byte]).collect(),
             most,
+            after: Vec::new(),
         })
     }
 }
@@ -54,6 +61,7 @@ impl Family for Sequences {
             out.extend_from_slice(&self.symbols[(rest % base) as usize]);
             rest /= base;
         }
+        out.extend_from_slice(&self.after);
     }
 }
 
@@ -155,8 +163,11 @@ fn psql_arguments() -> Vec<Box<dyn Family>> {
         .collect();
     let options = ["'", "\"", "`", "\\", ")", "|", " ", "\n", "a", "é"];
     families.push(Sequences::of("options of \\g", "\\g (", &options, 6));
-    let escapes = ["'", "\\", "0", "5", "1", "x", "2", "9", ")", "|", " "];
-    families.push(Sequences::of("escapes in options of \\g", "\\g ('", &escapes, 6));
+    // Whether the pipe takes the backslash after it tells whether the option list was closed.
+    families.push(Sequences::between("options of \\g before a pipe", "\\g (", &options, 6, " |b\\c;"));
+    let escapes = ["'", "\\", "0", "5", "1", "x", "2", "9", ")", "a"];
+    families.push(Sequences::between("escapes in options of \\g", "\\g ('", &escapes, 6, "' |b\\c;"));
+    families.push(Sequences::between("escapes in options of \\gx", "\\gx (a='\\", &escapes, 5, "' |b\\c;"));
     let letters = ["g", "x", "r", "o", "w", "h", "e", "f", "s", "v", "+", "!", " "];
     families.push(Sequences::of("short command words", "\\", &letters, 5));
     families
