@@ -1,3 +1,4 @@
 //! The lexer: from a text to its tokens.
 
+mod class;
 pub mod token;

@@ -88,23 +88,44 @@ pub enum TokenKind {
 #[derive(Clone, Copy)]
 pub enum LiteralKind {
     /// A whole number. `empty_int` is set where neither digit nor junk follows the prefix.
-    Int { base: Base, empty_int: bool, trailing_junk_start: u32 },
+    Int {
+        base: Base,
+        empty_int: bool,
+        trailing_junk_start: u32,
+    },
     /// A number with a point or an exponent; `empty_exponent_start` is where an exponent without digits begins.
-    Numeric { empty_exponent_start: Option<u32>, trailing_junk_start: u32 },
+    Numeric {
+        empty_exponent_start: Option<u32>,
+        trailing_junk_start: u32,
+    },
     /// `'..'`
-    Str { terminated: bool },
+    Str {
+        terminated: bool,
+    },
     /// `N'..'`
-    NationalStr { terminated: bool },
+    NationalStr {
+        terminated: bool,
+    },
     /// `X'..'`
-    ByteStr { terminated: bool },
+    ByteStr {
+        terminated: bool,
+    },
     /// `B'..'`
-    BitStr { terminated: bool },
+    BitStr {
+        terminated: bool,
+    },
     /// `$tag$..$tag$`
-    DollarQuotedString { terminated: bool },
+    DollarQuotedString {
+        terminated: bool,
+    },
     /// `U&'..'`
-    UnicodeEscStr { terminated: bool },
+    UnicodeEscStr {
+        terminated: bool,
+    },
     /// `E'..'`
-    EscStr { terminated: bool },
+    EscStr {
+        terminated: bool,
+    },
 }
 
 /// The base of a whole number, by its prefix.

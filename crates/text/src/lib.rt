@@ -1,5 +1,22 @@
 //! Texts: finite sequences of bytes that can be asked for their length and for the byte at a place.
 
+mod fault;
+mod fit;
+mod flat;
+mod halves;
+mod run;
+mod utf8;
+
+pub use fault::Fault;
+pub use fault::Layer;
+pub use fault::TextFault;
+pub use fit::check;
+pub use flat::Flat;
+pub use flat::FlatText;
+pub use halves::Halves;
+pub use halves::HalvesText;
+pub use run::LONGEST;
+pub use utf8::Utf8Checker;
 ghost use Prim.Native.Nat.{ℕ, _^_, _<_};
 ghost use Rattle.std.specs.shelf.Maps.{nth};
 ghost use lib.ListN.{length};

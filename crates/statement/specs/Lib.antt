@@ -1,0 +1,5 @@
+pub mod Causes
+pub mod Roles
+pub mod Ends
+pub mod Statements
+pub mod Laws

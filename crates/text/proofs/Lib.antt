@@ -1,0 +1,4 @@
+pub mod Clipped
+pub mod Places
+pub mod Leads
+pub mod Found
