@@ -21,16 +21,19 @@ pub use fault::ProgramFault;
 pub use fault::ProgramFromText;
 use lexer::token::Token;
 use lexer::token::TokenKind;
+use lines::EndLineDisplay;
 use lines::RefusedLine;
 use lines::RefusedLineDisplay;
 use lines::TokenLine;
 use lines::TokenLineDisplay;
-use lines::EndLineDisplay;
 use lines::TotalLineDisplay;
 use std::alloc::AllocError;
 use std::alloc::Global;
 use std::fmt::Display;
+use text::Flat;
+use text::FlatText;
 use text::Text;
+use text::check;
 use walk::Walk;
 
 /// What the program writes, and whether it is a refusal.
@@ -44,7 +47,10 @@ fn token_at<T: Text>(text: &T, place: u32) -> Option<Token>
     ensures { λ r. ⌜ BySome r (length (T·Text .bytes (now (text .entry))) ≤ place) (λ t. (0 < t .len) × (place + t .len ≤ length (T·Text .bytes (now (text .entry))))) ⌝ }
 {
     if place < text.len() {
-        Some(Token { kind: TokenKind::Unknown, len: 1 })
+        Some(Token {
+            kind: TokenKind::Unknown,
+            len: 1,
+        })
     } else {
         None
     }
@@ -66,12 +72,26 @@ fn refusal(heap: Global, fault: ProgramFault) -> Result<Listing, AllocError>
 {
     let fault = fault.fault();
     let mut lines = String::new(heap);
-    push(&mut lines, RefusedLine { number: fault.number, place: fault.place })?;
-    Ok(Listing { lines, refused: true })
+    push(
+        &mut lines,
+        RefusedLine {
+            number: fault.number,
+            place: fault.place,
+        },
+    )?;
+    Ok(Listing {
+        lines,
+        refused: true,
+    })
 }
 
 /// Writes the line of a token, and the end's if a statement ends after it. `size` is the text's length.
-fn list_token(lines: &mut String, walk: &mut Walk, token: Token, size: u32) -> Result<(), AllocError>
+fn list_token(
+    lines: &mut String,
+    walk: &mut Walk,
+    token: Token,
+    size: u32,
+) -> Result<(), AllocError>
     requires within { ⌜ Within (now walk) ⌝ }
     requires some { ⌜ 0 < token .len ⌝ }
     requires inside { ⌜ now walk .place + token .len ≤ size ⌝ }
@@ -97,5 +117,46 @@ fn list_tokens<T: Text>(heap: Global, text: &T) -> Result<Listing, AllocError>
         list_token(&mut lines, &mut walk, token, size)?;
     }
     push(&mut lines, walk.total_line())?;
-    Ok(Listing { lines, refused: false })
+    Ok(Listing {
+        lines,
+        refused: false,
+    })
+}
+
+/// Whether a text is fit to be read, or why it is refused.
+fn admit_text<T: Text>(text: &T) -> Result<(), ProgramFault>
+    ensures { λ r. ⌜ r ≡ in-text (checked (T·Text .bytes (now (text .entry)))) ⌝ }
+{
+    check(text)?;
+    Ok(())
+}
+
+/// Whether an input is listed, or why it is refused. Its length is looked at before anything else.
+fn admit(input: &[u8]) -> Result<(), ProgramFault>
+    ensures { λ r. ⌜ r ≡ admitted (now (input .entry)) ⌝ }
+{
+    if input.len() > LONGEST_INPUT as usize {
+        return Err(ProgramFault::InputTooLong);
+    }
+    admit_text(&Flat::new(input))
+}
+
+/// The listing of any text: its lines, or its refusal if it is not fit to be read.
+pub fn list_text<T: Text>(heap: Global, text: &T) -> Result<Listing, AllocError>
+    ensures { λ r. ⌜ made r (Answers (T·Text .bytes (now (text .entry))) (in-text (checked (T·Text .bytes (now (text .entry)))))) ⌝ }
+{
+    match admit_text(text) {
+        Ok(()) => list_tokens(heap, text),
+        Err(fault) => refusal(heap, fault),
+    }
+}
+
+/// The listing of an input of the program.
+pub fn list_input(heap: Global, input: &[u8]) -> Result<Listing, AllocError>
+    ensures { λ r. ⌜ made r (Answers (now (input .entry)) (admitted (now (input .entry)))) ⌝ }
+{
+    match admit(input) {
+        Ok(()) => list_tokens(heap, &Flat::new(input)),
+        Err(fault) => refusal(heap, fault),
+    }
 }

@@ -28,7 +28,15 @@ impl Walk {
     pub(crate) fn new() -> Walk
         ensures { λ r. ⌜ r ≡ at-front ⌝ }
     {
-        Walk { place: 0, tokens: 0, ends: 0, rule: Ends::new(), start: 0, passed: 0, solid: 0 }
+        Walk {
+            place: 0,
+            tokens: 0,
+            ends: 0,
+            rule: Ends::new(),
+            start: 0,
+            passed: 0,
+            solid: 0,
+        }
     }
 
     /// Moves past a token, and answers the line of the statement that ends after it, if one does.
@@ -64,6 +72,10 @@ impl Walk {
     pub(crate) fn total_line(&self) -> TotalLine
         ensures { λ r. ⌜ r ≡ total-line (now (self .entry)) ⌝ }
     {
-        TotalLine { bytes: self.place, tokens: self.tokens, ends: self.ends }
+        TotalLine {
+            bytes: self.place,
+            tokens: self.tokens,
+            ends: self.ends,
+        }
     }
 }

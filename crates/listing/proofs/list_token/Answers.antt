@@ -13,9 +13,9 @@ returns-in-Continue-push-2 c =
     let line = token-bytes (record { place = w .place; token = t }) in
     record {
       lines =
-        written-twice before (string-bytes (c .push .last .lines)) (string-bytes (c .push-in-Some .last .lines)) line (end-bytes (c .in-Some .end)) (end-lines w t (end-there (c .args .size) w t))
-        (c .in-Continue-push .ensures tt)
-        (c .in-Continue-push-2 .ensures tt)
-        (sym (end-lines-some w t (end-there (c .args .size) w t) (c .in-Some .end) (sym (c .pass .ensures .line) ∙ c .in-Some .is)));
+          written-twice before (string-bytes (c .push .last .lines)) (string-bytes (c .push-in-Some .last .lines)) line (end-bytes (c .in-Some .end)) (end-lines w t (end-there (c .args .size) w t))
+          (c .in-Continue-push .ensures tt)
+          (c .in-Continue-push-2 .ensures tt)
+          (sym (end-lines-some w t (end-there (c .args .size) w t) (c .in-Some .end) (sym (c .pass .ensures .line) ∙ c .in-Some .is)));
       walk = c .pass .ensures .after;
     }

@@ -18,8 +18,7 @@ loop-token-again g c =
     let end = end-there size w t in
     let onward = c .in-Continue-list-token .ensures tt .walk in
     let inv = c .loop-token .inv in
-    let there = c .in-Some .ensures tt in
-    (
+    let there = c .in-Some .ensures tt in (
       inv .0,
       omega (arith, there .1, ap (λ u. u .place) onward, place-past w t end, inv .0),
       subst Within (sym onward) (within-past w t end (there .0) (inv .2)),
