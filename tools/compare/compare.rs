@@ -2,6 +2,7 @@
 //!   compare [SECONDS [SEED]]
 //! SECONDS is the time for random texts, half for each of their families.
 
+use mend::Mend;
 use std::process::ExitCode;
 use std::sync::Mutex;
 use std::sync::atomic::{AtomicU64, Ordering};
@@ -43,20 +44,24 @@ fn main() -> ExitCode {
 #[derive(Default)]
 struct Tally {
     compared: u64,
-    intended: u64,
+    /// Texts that part as intended because of escapes, and those where two quotes matter.
+    escapes: u64,
+    quotes: u64,
     different: Vec<u64>,
 }
 
 impl Tally {
     fn add(&mut self, other: Tally) {
         self.compared += other.compared;
-        self.intended += other.intended;
+        self.escapes += other.escapes;
+        self.quotes += other.quotes;
         self.different.extend(other.different);
     }
 
     fn told(&self) -> String {
-        let Tally { compared, intended, different } = self;
-        format!("{compared} texts compared, {intended} part as intended, {} differ", different.len())
+        let Tally { compared, escapes, quotes, different } = self;
+        let intended = format!("{escapes} part as intended at escapes, {quotes} at two quotes");
+        format!("{compared} texts compared, {intended}, {} differ", different.len())
     }
 }
 
@@ -94,7 +99,8 @@ fn compare_blocks(family: &dyn Family, next: &AtomicU64, until: Option<Instant>)
             tally.compared += 1;
             match comparison.of(family, number) {
                 Answer::Same => {}
-                Answer::Intended => tally.intended += 1,
+                Answer::Intended(Mend::Escapes) => tally.escapes += 1,
+                Answer::Intended(Mend::EscapesAndQuotes) => tally.quotes += 1,
                 Answer::Different => tally.different.push(number),
             }
         }
@@ -103,7 +109,7 @@ fn compare_blocks(family: &dyn Family, next: &AtomicU64, until: Option<Instant>)
 
 enum Answer {
     Same,
-    Intended,
+    Intended(Mend),
     Different,
 }
 
@@ -130,11 +136,11 @@ impl Comparison {
             cushallen_listing(self.text.as_ptr(), self.text.len(), self.ours.as_mut_ptr(), self.ours.len())
         };
         if self.ours() == self.theirs {
-            Answer::Same
-        } else if self.parts_as_intended() {
-            Answer::Intended
-        } else {
-            Answer::Different
+            return Answer::Same;
+        }
+        match [Mend::Escapes, Mend::EscapesAndQuotes].into_iter().find(|&mend| self.parts_as_intended(mend)) {
+            Some(mend) => Answer::Intended(mend),
+            None => Answer::Different,
         }
     }
 
@@ -142,12 +148,12 @@ impl Comparison {
         &self.ours[..self.ours_length.min(ROOM)]
     }
 
-    /// Where the two part is an option list with escapes, and with the escapes written plainly the Rust answers as we do.
-    fn parts_as_intended(&self) -> bool {
+    /// Where the two part stands an option list, and to the list written plainly the Rust answers as we do.
+    fn parts_as_intended(&self, mend: Mend) -> bool {
         let mut text = self.text.clone();
         let mut theirs = self.theirs.clone();
         while let Some(place) = first_parting(self.ours(), &theirs) {
-            let Some(plain) = mend::plain_escapes(&text, place) else {
+            let Some(plain) = mend::plainly(mend, &text, place) else {
                 return false;
             };
             text = plain;

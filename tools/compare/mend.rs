@@ -1,14 +1,22 @@
 //! Where our answer parts from the Rust's on purpose, and what it should be there.
 //!
 //! Within single quotes of a psql argument, `\` and one to three octal digits, or `\x` and one or two hexadecimal digits, stand
-//! for a character (its low eight bits). The Rust takes the digits for plain characters. It matters only to the option list of
-//! `\g (` and `\gx (`, which ends with the argument whose last character is `)`.
+//! for a character (its low eight bits), and two single quotes stand for one. The Rust takes the digits for plain characters, and
+//! two quotes for the end of one quoted part and the start of another. It matters only to the option list of `\g (` and `\gx (`, which
+//! ends with the argument whose last character is `)`.
 //!
 //! The intended answer is the Rust's own answer to a text of the same length, in which plain characters stand for each such
-//! escape, the last of them `)` where the escape means `)`.
+//! escape and each two quotes, the last of them `)` where `)` is meant.
 
-/// The text with the escapes of the option list at `place` written plainly; none if there is no such list or no escape in it.
-pub fn plain_escapes(text: &[u8], place: usize) -> Option<Vec<u8>> {
+/// What is written plainly.
+#[derive(Clone, Copy, PartialEq)]
+pub enum Mend {
+    Escapes,
+    EscapesAndQuotes,
+}
+
+/// The text with the option list at `place` written plainly; none if there is no such list or nothing to write in it.
+pub fn plainly(mend: Mend, text: &[u8], place: usize) -> Option<Vec<u8>> {
     let mut at = place + options_start(text.get(place..)?)?;
     let mut plain = text.to_vec();
     let mut quote = None;
@@ -16,11 +24,12 @@ pub fn plain_escapes(text: &[u8], place: usize) -> Option<Vec<u8>> {
         match (byte, quote) {
             (b'\n' | b'\r', _) | (b'\\', None) => break,
             (b'\'' | b'"' | b'`', None) => quote = Some(byte),
-            (_, Some(open)) if byte == open => quote = None,
-            (b'\\', Some(b'\'')) => {
-                at += write_plainly(&text[at + 1..], &mut plain[at..]);
-                continue;
+            (b'\'', Some(b'\'')) if mend == Mend::EscapesAndQuotes && text.get(at + 1) == Some(&b'\'') => {
+                plain[at..at + 2].fill(b'a');
+                at += 1;
             }
+            (_, Some(open)) if byte == open => quote = None,
+            (b'\\', Some(b'\'')) => at += write_plainly(&text[at + 1..], &mut plain[at..]) - 1,
             _ => {}
         }
         at += 1;

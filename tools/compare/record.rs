@@ -4,6 +4,7 @@
 //! in the fixed list or shows something that none before it did. Fails if the kept ones do not show all that `demands` names.
 
 use feature::{Features, KNOWN, features};
+use mend::Mend;
 use std::io::Write;
 use std::process::ExitCode;
 use texts::{ENDING, Family, LINES, PIPED};
@@ -77,7 +78,7 @@ impl Record {
     fn keep_if_new(&mut self, text: &[u8]) {
         let listing = driver::listing(text);
         let features = features(text, str::from_utf8(&listing).unwrap());
-        if !features.is_subset(&self.shown) && !escapes_matter(text, &listing) {
+        if !features.is_subset(&self.shown) && !parts_on_purpose(text, &listing) {
             self.keep(text);
         }
     }
@@ -95,10 +96,12 @@ impl Record {
     }
 }
 
-/// Whether an escape in some option list of a text changes its listing; there our lexer parts from the Rust on purpose.
-fn escapes_matter(text: &[u8], listing: &[u8]) -> bool {
-    let slashes = (0..text.len()).filter(|&place| text[place] == b'\\');
-    slashes.filter_map(|place| mend::plain_escapes(text, place)).any(|plain| driver::listing(&plain) != listing)
+/// Whether an escape or two quotes in some option list change the listing; there our lexer parts from the Rust on purpose.
+fn parts_on_purpose(text: &[u8], listing: &[u8]) -> bool {
+    let differs = |mend, place| mend::plainly(mend, text, place).is_some_and(|plain| driver::listing(&plain) != listing);
+    (0..text.len())
+        .filter(|&place| text[place] == b'\\')
+        .any(|place| differs(Mend::Escapes, place) || differs(Mend::EscapesAndQuotes, place))
 }
 
 /// What the recorded texts have to show.
