@@ -13,7 +13,12 @@ mod mend;
 
 unsafe extern "C" {
     /// Writes the listing of a text to `out`, as much as there is room for, and answers its length.
-    fn cushallen_listing(input: *const u8, input_length: usize, out: *mut u8, out_length: usize) -> usize;
+    fn cushallen_listing(
+        input: *const u8,
+        input_length: usize,
+        out: *mut u8,
+        out_length: usize,
+    ) -> usize;
 }
 
 /// The longest texts have 65,536 tokens, each with an end; no two lines together pass 100 bytes.
@@ -25,7 +30,9 @@ const BLOCK: u64 = 4096;
 const SHOWN: usize = 10;
 
 fn main() -> ExitCode {
-    let mut arguments = std::env::args().skip(1).map(|word| word.parse().expect("a number"));
+    let mut arguments = std::env::args()
+        .skip(1)
+        .map(|word| word.parse().expect("a number"));
     let seconds: u64 = arguments.next().unwrap_or(60);
     let seed = arguments.next().unwrap_or(1);
     let mut total = Tally::default();
@@ -37,7 +44,11 @@ fn main() -> ExitCode {
         total.add(compare_family(&*family, Some(Instant::now() + share)));
     }
     println!("{}", total.told());
-    if total.different.is_empty() { ExitCode::SUCCESS } else { ExitCode::FAILURE }
+    if total.different.is_empty() {
+        ExitCode::SUCCESS
+    } else {
+        ExitCode::FAILURE
+    }
 }
 
 /// What came of the texts compared so far.
@@ -59,9 +70,17 @@ impl Tally {
     }
 
     fn told(&self) -> String {
-        let Tally { compared, escapes, quotes, different } = self;
+        let Tally {
+            compared,
+            escapes,
+            quotes,
+            different,
+        } = self;
         let intended = format!("{escapes} part as intended at escapes, {quotes} at two quotes");
-        format!("{compared} texts compared, {intended}, {} differ", different.len())
+        format!(
+            "{compared} texts compared, {intended}, {} differ",
+            different.len()
+        )
     }
 }
 
@@ -123,7 +142,12 @@ struct Comparison {
 
 impl Comparison {
     fn new() -> Comparison {
-        Comparison { text: Vec::new(), theirs: Vec::new(), ours: vec![0; ROOM], ours_length: 0 }
+        Comparison {
+            text: Vec::new(),
+            theirs: Vec::new(),
+            ours: vec![0; ROOM],
+            ours_length: 0,
+        }
     }
 
     fn of(&mut self, family: &dyn Family, number: u64) -> Answer {
@@ -133,12 +157,20 @@ impl Comparison {
         driver::list(&self.text, &mut self.theirs);
         // SAFETY: both slices are alive and as long as said, and nothing else holds `ours`.
         self.ours_length = unsafe {
-            cushallen_listing(self.text.as_ptr(), self.text.len(), self.ours.as_mut_ptr(), self.ours.len())
+            cushallen_listing(
+                self.text.as_ptr(),
+                self.text.len(),
+                self.ours.as_mut_ptr(),
+                self.ours.len(),
+            )
         };
         if self.ours() == self.theirs {
             return Answer::Same;
         }
-        match [Mend::Escapes, Mend::EscapesAndQuotes].into_iter().find(|&mend| self.parts_as_intended(mend)) {
+        match [Mend::Escapes, Mend::EscapesAndQuotes]
+            .into_iter()
+            .find(|&mend| self.parts_as_intended(mend))
+        {
             Some(mend) => Answer::Intended(mend),
             None => Answer::Different,
         }
@@ -167,7 +199,10 @@ impl Comparison {
 fn first_parting(ours: &[u8], theirs: &[u8]) -> Option<usize> {
     let lines = |listing: &[u8]| String::from_utf8_lossy(listing).into_owned();
     let (ours, theirs) = (lines(ours), lines(theirs));
-    let (_, line) = ours.lines().zip(theirs.lines()).find(|(our, their)| our != their)?;
+    let (_, line) = ours
+        .lines()
+        .zip(theirs.lines())
+        .find(|(our, their)| our != their)?;
     let place = line.strip_prefix("token ")?.split(' ').next()?;
     place.parse().ok()
 }
@@ -175,7 +210,11 @@ fn first_parting(ours: &[u8], theirs: &[u8]) -> Option<usize> {
 fn show(family: &dyn Family, number: u64) {
     let mut comparison = Comparison::new();
     comparison.of(family, number);
-    println!("--- {} {number}: {:?}", family.name(), String::from_utf8_lossy(&comparison.text));
+    println!(
+        "--- {} {number}: {:?}",
+        family.name(),
+        String::from_utf8_lossy(&comparison.text)
+    );
     println!("bytes {:02x?}", comparison.text);
     println!("Rust:\n{}", String::from_utf8_lossy(&comparison.theirs));
     println!("ours:\n{}", String::from_utf8_lossy(comparison.ours()));

@@ -141,10 +141,15 @@ fn write_kind(kind: TokenKind, out: &mut Vec<u8>) {
         TokenKind::Literal { kind } => write_literal(kind, out),
         TokenKind::PsqlCommand { ends_query } => flag(out, "PsqlCommand", ends_query),
         TokenKind::BlockComment { terminated } => flag(out, "BlockComment", terminated),
-        TokenKind::PositionalParam { trailing_junk_start } => {
+        TokenKind::PositionalParam {
+            trailing_junk_start,
+        } => {
             write!(out, "PositionalParam {trailing_junk_start}").unwrap();
         }
-        TokenKind::QuotedIdent { terminated, uescape } => {
+        TokenKind::QuotedIdent {
+            terminated,
+            uescape,
+        } => {
             flag(out, "QuotedIdent", terminated);
             write!(out, " {}", u8::from(uescape)).unwrap();
         }
@@ -155,11 +160,23 @@ fn write_kind(kind: TokenKind, out: &mut Vec<u8>) {
 
 fn write_literal(kind: LiteralKind, out: &mut Vec<u8>) {
     match kind {
-        LiteralKind::Int { base, empty_int, trailing_junk_start } => {
+        LiteralKind::Int {
+            base,
+            empty_int,
+            trailing_junk_start,
+        } => {
             let base = number_of(base);
-            write!(out, "Int {base} {} {trailing_junk_start}", u8::from(empty_int)).unwrap();
+            write!(
+                out,
+                "Int {base} {} {trailing_junk_start}",
+                u8::from(empty_int)
+            )
+            .unwrap();
         }
-        LiteralKind::Numeric { empty_exponent_start, trailing_junk_start } => {
+        LiteralKind::Numeric {
+            empty_exponent_start,
+            trailing_junk_start,
+        } => {
             let exponent = match empty_exponent_start {
                 Some(start) => start.to_string(),
                 None => "-".to_string(),

@@ -9,7 +9,10 @@ pub type Features = BTreeSet<String>;
 /// Words that the lexer knows, and near misses of them. `\;` and `\:` are no commands.
 pub static KNOWN: LazyLock<BTreeSet<String>> = LazyLock::new(|| {
     let words = ENDING.iter().chain(PIPED).chain(LINES);
-    words.flat_map(|word| near_misses(word)).filter(|word| !word.starts_with([';', ':'])).collect()
+    words
+        .flat_map(|word| near_misses(word))
+        .filter(|word| !word.starts_with([';', ':']))
+        .collect()
 });
 
 /// A token line of a listing, with the bytes that the token covers.
@@ -53,13 +56,29 @@ pub fn features(text: &[u8], listing: &str) -> Features {
 fn token_line<'a>(text: &'a [u8], words: Vec<&'a str>) -> Line<'a> {
     let place: usize = words[0].parse().unwrap();
     let end = place + words[1].parse::<usize>().unwrap();
-    Line { kind: words[2], fields: words[3..].to_vec(), bytes: &text[place..end], after: &text[end..] }
+    Line {
+        kind: words[2],
+        fields: words[3..].to_vec(),
+        bytes: &text[place..end],
+        after: &text[end..],
+    }
 }
 
 /// The kind and its fields; of an offset only what it tells: whether there is junk, digits, an empty exponent.
 fn form(token: &Line) -> String {
-    let Line { kind, fields, bytes, .. } = token;
-    let junk = |start: &str| if start.parse() == Ok(bytes.len()) { "clean" } else { "junk" };
+    let Line {
+        kind,
+        fields,
+        bytes,
+        ..
+    } = token;
+    let junk = |start: &str| {
+        if start.parse() == Ok(bytes.len()) {
+            "clean"
+        } else {
+            "junk"
+        }
+    };
     match (*kind, fields.as_slice()) {
         ("Int", [base, empty, start]) => format!("Int {base} {empty} {}", junk(start)),
         ("Numeric", ["-", start]) => format!("Numeric - {}", junk(start)),
@@ -79,7 +98,9 @@ fn is_blank(byte: &u8) -> bool {
 /// How a psql command was read: its word, what it took, and what it stopped before.
 fn show_command(token: &Line, shown: &mut Features) {
     let letters = &token.bytes[1..];
-    let length = letters.iter().position(|byte| is_blank(byte) || matches!(byte, b'\n' | b'\r' | b'\\'));
+    let length = letters
+        .iter()
+        .position(|byte| is_blank(byte) || matches!(byte, b'\n' | b'\r' | b'\\'));
     let (word, rest) = letters.split_at(length.unwrap_or(letters.len()));
     let word = String::from_utf8_lossy(word);
     let blanks = rest.iter().take_while(|byte| is_blank(byte)).count();
@@ -103,17 +124,27 @@ fn show_command(token: &Line, shown: &mut Features) {
     if PIPED.contains(&&*word) {
         show_pipe(&word, rest, shown);
     }
-    let signs: String = "'\"`(|)\\".chars().filter(|&sign| rest.contains(&(sign as u8))).collect();
+    let signs: String = "'\"`(|)\\"
+        .chars()
+        .filter(|&sign| rest.contains(&(sign as u8)))
+        .collect();
     shown.insert(format!("{signs} before {stop}"));
 }
 
 /// A backslash after the pipe shows that the whole line was taken.
 fn show_pipe(word: &str, rest: &[u8], shown: &mut Features) {
-    let piped = rest.iter().skip_while(|&&byte| byte != b'|').any(|&byte| byte == b'\\');
+    let piped = rest
+        .iter()
+        .skip_while(|&&byte| byte != b'|')
+        .any(|&byte| byte == b'\\');
     match rest.first() {
         Some(b'|') if piped => drop(shown.insert(format!("\\{word} takes a pipe"))),
         Some(b'(') => {
-            let told = if piped { "takes a pipe after options" } else { "takes options" };
+            let told = if piped {
+                "takes a pipe after options"
+            } else {
+                "takes options"
+            };
             shown.insert(format!("\\{word} {told}"));
             show_quotes(rest, shown);
         }
@@ -145,8 +176,13 @@ fn show_quotes(options: &[u8], shown: &mut Features) {
 /// The classes of the bytes of an ill-formed sequence, up to and with the one that it cannot go on with.
 fn show_fault(text: &[u8], place: &str, shown: &mut Features) {
     let place: usize = place.parse().unwrap();
-    let taken = str::from_utf8(&text[place..]).unwrap_err().error_len().unwrap_or(text.len() - place);
-    let classes: Vec<_> = (place..=place + taken).map(|at| byte_class(text.get(at))).collect();
+    let taken = str::from_utf8(&text[place..])
+        .unwrap_err()
+        .error_len()
+        .unwrap_or(text.len() - place);
+    let classes: Vec<_> = (place..=place + taken)
+        .map(|at| byte_class(text.get(at)))
+        .collect();
     shown.insert("refused 2".to_string());
     shown.insert(format!("refused at {}", classes.join(" ")));
 }

@@ -5,7 +5,9 @@ pub fn memchr(wanted: u8, bytes: &[u8]) -> Option<usize> {
 }
 
 pub fn memchr2(first: u8, second: u8, bytes: &[u8]) -> Option<usize> {
-    bytes.iter().position(|&byte| byte == first || byte == second)
+    bytes
+        .iter()
+        .position(|&byte| byte == first || byte == second)
 }
 
 pub fn memchr3(first: u8, second: u8, third: u8, bytes: &[u8]) -> Option<usize> {

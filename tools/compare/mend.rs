@@ -24,7 +24,9 @@ pub fn plainly(mend: Mend, text: &[u8], place: usize) -> Option<Vec<u8>> {
         match (byte, quote) {
             (b'\n' | b'\r', _) | (b'\\', None) => break,
             (b'\'' | b'"' | b'`', None) => quote = Some(byte),
-            (b'\'', Some(b'\'')) if mend == Mend::EscapesAndQuotes && text.get(at + 1) == Some(&b'\'') => {
+            (b'\'', Some(b'\''))
+                if mend == Mend::EscapesAndQuotes && text.get(at + 1) == Some(&b'\'') =>
+            {
                 plain[at..at + 2].fill(b'a');
                 at += 1;
             }
@@ -41,7 +43,10 @@ pub fn plainly(mend: Mend, text: &[u8], place: usize) -> Option<Vec<u8>> {
 fn options_start(text: &[u8]) -> Option<usize> {
     let rest = text.strip_prefix(b"\\g")?;
     let rest = rest.strip_prefix(b"x").unwrap_or(rest);
-    let blanks = rest.iter().take_while(|byte| matches!(byte, b' ' | b'\t' | 11 | 12)).count();
+    let blanks = rest
+        .iter()
+        .take_while(|byte| matches!(byte, b' ' | b'\t' | 11 | 12))
+        .count();
     let found = blanks > 0 && rest.get(blanks) == Some(&b'(');
     found.then(|| text.len() - rest.len() + blanks)
 }
@@ -50,7 +55,11 @@ fn options_start(text: &[u8]) -> Option<usize> {
 fn write_plainly(after: &[u8], out: &mut [u8]) -> usize {
     let Some((length, value)) = escape(after) else {
         // A backslash quotes any other character, but no line end.
-        return if matches!(after.first(), None | Some(b'\n' | b'\r')) { 1 } else { 2 };
+        return if matches!(after.first(), None | Some(b'\n' | b'\r')) {
+            1
+        } else {
+            2
+        };
     };
     out[..length].fill(b'a');
     if value == b')' {
@@ -61,10 +70,16 @@ fn write_plainly(after: &[u8], out: &mut [u8]) -> usize {
 
 /// The length of an octal or hexadecimal escape, with its backslash, and what it stands for.
 fn escape(after: &[u8]) -> Option<(usize, u8)> {
-    let (start, most, base) = if after.first() == Some(&b'x') { (1, 2, 16) } else { (0, 3, 8) };
+    let (start, most, base) = if after.first() == Some(&b'x') {
+        (1, 2, 16)
+    } else {
+        (0, 3, 8)
+    };
     let mut value: u32 = 0;
     let mut digits = 0;
-    while let Some(digit) = after.get(start + digits).and_then(|&byte| char::from(byte).to_digit(base))
+    while let Some(digit) = after
+        .get(start + digits)
+        .and_then(|&byte| char::from(byte).to_digit(base))
         && digits < most
     {
         value = value * base + digit;

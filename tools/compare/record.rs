@@ -15,7 +15,9 @@ mod mend;
 fn main() -> ExitCode {
     let mut arguments = std::env::args().skip(1);
     let file = arguments.next().expect("usage: record FILE [SEED]");
-    let seed = arguments.next().map_or(1, |word| word.parse().expect("a number"));
+    let seed = arguments
+        .next()
+        .map_or(1, |word| word.parse().expect("a number"));
     let mut record = Record::default();
     for text in FIXED {
         record.keep(text.as_bytes());
@@ -32,11 +34,16 @@ fn main() -> ExitCode {
         return ExitCode::FAILURE;
     }
     std::fs::write(&file, &record.lines).expect("the file can be written");
-    println!("{} texts recorded, {} bytes", record.count, record.lines.len());
+    println!(
+        "{} texts recorded, {} bytes",
+        record.count,
+        record.lines.len()
+    );
     ExitCode::SUCCESS
 }
 
 /// Texts that tell something in every version of this program.
+#[rustfmt::skip]
 const FIXED: &[&str] = &[
     "", "\u{feff}", "\u{feff} ", "\u{feff}\u{feff}", "a;1e+", "1e+", "0b29", "1..10", "1. 10", "/*/", "/*/**/*/", "/**/*/",
     "$a$x$ab$y$a$", "$a$a$", "$a$b$a$", "$1a$", "$é$x$é$", "$$a$$b", "E'\\''", "'\\''", "e'\\", "a(;)b;c", "a\\;b;", ")(;", "());",
@@ -85,7 +92,8 @@ impl Record {
 
     fn keep(&mut self, text: &[u8]) {
         let listing = driver::listing(text);
-        self.shown.append(&mut features(text, str::from_utf8(&listing).unwrap()));
+        self.shown
+            .append(&mut features(text, str::from_utf8(&listing).unwrap()));
         self.count += 1;
         for byte in text {
             write!(self.lines, "{byte:02x}").unwrap();
@@ -98,7 +106,9 @@ impl Record {
 
 /// Whether an escape or two quotes in some option list change the listing; there our lexer parts from the Rust on purpose.
 fn parts_on_purpose(text: &[u8], listing: &[u8]) -> bool {
-    let differs = |mend, place| mend::plainly(mend, text, place).is_some_and(|plain| driver::listing(&plain) != listing);
+    let differs = |mend, place| {
+        mend::plainly(mend, text, place).is_some_and(|plain| driver::listing(&plain) != listing)
+    };
     (0..text.len())
         .filter(|&place| text[place] == b'\\')
         .any(|place| differs(Mend::Escapes, place) || differs(Mend::EscapesAndQuotes, place))
@@ -106,7 +116,10 @@ fn parts_on_purpose(text: &[u8], listing: &[u8]) -> bool {
 
 /// What the recorded texts have to show.
 fn demands() -> Features {
-    let mut all: Features = token_demands().into_iter().chain(command_demands()).collect();
+    let mut all: Features = token_demands()
+        .into_iter()
+        .chain(command_demands())
+        .collect();
     all.extend(["1", "2", "3", "4"].map(|cause| format!("cause {cause}")));
     all.extend(["refused 2", "no token"].map(str::to_string));
     all
@@ -130,7 +143,9 @@ fn token_demands() -> Vec<String> {
     // Only a number with a base prefix can be empty, and then it has no junk.
     all.extend([2, 8, 16].map(|base| format!("Int {base} 1 clean")));
     for junk in ["junk", "clean"] {
-        all.extend(["Numeric -", "Numeric e", "PositionalParam $9"].map(|form| format!("{form} {junk}")));
+        all.extend(
+            ["Numeric -", "Numeric e", "PositionalParam $9"].map(|form| format!("{form} {junk}")),
+        );
     }
     // A `$` before junk without a digit opens a dollar quote, or the junk has no second `$`.
     all.extend(["PositionalParam $ junk", "PositionalParam $ clean"].map(str::to_string));
@@ -143,14 +158,26 @@ fn command_demands() -> Vec<String> {
     all.extend(ENDING.iter().map(|word| format!("\\{word} ends a query")));
     all.extend(LINES.iter().map(|word| format!("\\{word} takes the line")));
     for word in PIPED {
-        all.extend([format!("\\{word} takes a pipe"), format!("\\{word} takes a plain argument")]);
+        all.extend([
+            format!("\\{word} takes a pipe"),
+            format!("\\{word} takes a plain argument"),
+        ]);
     }
     for word in ["g", "gx"] {
-        all.extend([format!("\\{word} takes options"), format!("\\{word} takes a pipe after options")]);
+        all.extend([
+            format!("\\{word} takes options"),
+            format!("\\{word} takes a pipe after options"),
+        ]);
     }
-    all.extend(["the end", "byte 10", "byte 13", "a backslash"].map(|stop| format!("command before {stop}")));
+    all.extend(
+        ["the end", "byte 10", "byte 13", "a backslash"]
+            .map(|stop| format!("command before {stop}")),
+    );
     for quote in ["'", "\"", "`"] {
-        all.extend([format!("option {quote} closed"), format!("option {quote} open")]);
+        all.extend([
+            format!("option {quote} closed"),
+            format!("option {quote} open"),
+        ]);
     }
     all.extend(KNOWN.iter().map(|word| format!("word {word}")));
     all

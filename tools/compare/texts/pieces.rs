@@ -7,6 +7,7 @@ pub struct Pieces {
     pub seed: u64,
 }
 
+#[rustfmt::skip]
 const PIECES: &[&str] = &[
     // words, blanks, and the characters that end things
     "a", "select", "é", "𝄞x", "_b", "a$b", " ", "  ", "\t", "\n", "\r", "\r\n", "\x0b", "\x0c", "\0", "\u{feff}", ";", ";",
@@ -58,7 +59,11 @@ fn add_piece(chance: &mut Chance, out: &mut Vec<u8>) {
     let words = chance.one_of(&[ENDING, PIPED, PIPED, LINES, OTHERS]);
     out.push(b'\\');
     out.extend_from_slice(chance.one_of(words).as_bytes());
-    out.extend_from_slice(chance.one_of(&[" ", " ", "\t", "", "\n", " (", "(", " |"]).as_bytes());
+    out.extend_from_slice(
+        chance
+            .one_of(&[" ", " ", "\t", "", "\n", " (", "(", " |"])
+            .as_bytes(),
+    );
 }
 
 /// Drops, doubles, swaps or turns the case of one character of the piece that starts at `start`.
@@ -78,5 +83,9 @@ fn damage(chance: &mut Chance, start: usize, out: &mut Vec<u8>) {
 }
 
 fn turned_case(letter: char) -> char {
-    if letter.is_ascii_lowercase() { letter.to_ascii_uppercase() } else { letter.to_ascii_lowercase() }
+    if letter.is_ascii_lowercase() {
+        letter.to_ascii_uppercase()
+    } else {
+        letter.to_ascii_lowercase()
+    }
 }

@@ -4,6 +4,7 @@ use crate::Listed;
 use std::collections::BTreeSet;
 
 /// Words that end a query.
+#[rustfmt::skip]
 pub const ENDING: &[&str] = &[
     "g", "gx", "gdesc", "gexec", "gset", "crosstabview", "watch", "r", "reset", "parse", "close_prepared",
     "startpipeline", "syncpipeline", "sendpipeline", "endpipeline", "flush", "flushrequest", "getresults",
@@ -13,14 +14,18 @@ pub const ENDING: &[&str] = &[
 pub const PIPED: &[&str] = &["g", "gx", "o", "out", "w", "write"];
 
 /// Words that take the whole line; `copy` does in any case of its letters.
-pub const LINES: &[&str] = &["!", "copy", "COPY", "Copy", "cOpY", "h", "help", "ef", "ev", "sf", "sf+", "sv", "sv+"];
+pub const LINES: &[&str] = &[
+    "!", "copy", "COPY", "Copy", "cOpY", "h", "help", "ef", "ev", "sf", "sf+", "sv", "sv+",
+];
 
 /// Words of no special reading.
+#[rustfmt::skip]
 pub const OTHERS: &[&str] = &[
     "a", "c", "d", "dt+", "e", "echo", "i", "if", "endif", "p", "print", "pset", "q", "set", "timing", "x", "bind",
     "prompt", "G", "GX", "R", "O", "W", "H", "EF", "gfoo", "copyright", "unrestrict", "restrict",
 ];
 
+#[rustfmt::skip]
 const TAILS: &[&str] = &[
     "",
     " ",
@@ -54,10 +59,17 @@ pub fn commands() -> Listed {
             texts.push(format!("select (1\\{word}{tail}").into_bytes());
         }
         for near in near_misses(word) {
-            texts.extend(TAILS.iter().map(|tail| format!("\\{near}{tail}").into_bytes()));
+            texts.extend(
+                TAILS
+                    .iter()
+                    .map(|tail| format!("\\{near}{tail}").into_bytes()),
+            );
         }
     }
-    Listed { name: "psql commands", texts }
+    Listed {
+        name: "psql commands",
+        texts,
+    }
 }
 
 /// The word, its fronts, and what one slip of the pen makes of it.

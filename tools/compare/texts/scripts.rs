@@ -6,13 +6,26 @@ pub struct Scripts {
     pub seed: u64,
 }
 
-const NAMES: &[&str] = &["account", "order_line", "\"Order\"", "public.item", "größe", "u", "e", "x1", "\"a\"\"b\"", "_t$1"];
+const NAMES: &[&str] = &[
+    "account",
+    "order_line",
+    "\"Order\"",
+    "public.item",
+    "größe",
+    "u",
+    "e",
+    "x1",
+    "\"a\"\"b\"",
+    "_t$1",
+];
 
+#[rustfmt::skip]
 const VALUES: &[&str] = &[
     "1", "-2.50", "1e-3", "0xFF", "1_000_000", "NULL", "'it''s; so'", "E'tab\\t\\'q\\''", "B'0101'", "X'1FF'", "N'x'",
     "U&'d\\0061t\\+000061'", "$$a;'b'$$", "$q$;$$;$q$", "'2024-01-01'::date", "$1", "ARRAY[1,2]", "'multi\nline;'", "now()",
 ];
 
+#[rustfmt::skip]
 const BODIES: &[&str] = &[
     "BEGIN\n  NEW.changed := now();\n  RETURN NEW;\nEND;",
     "DECLARE\n  n int := 0; -- count; of rows\nBEGIN\n  EXECUTE 'select ''a;b''';\n  /* nested /* ; */ ; */\nEND;",
@@ -20,12 +33,14 @@ const BODIES: &[&str] = &[
     "BEGIN\n  PERFORM $inner$ text; with $body dollars $inner$;\nEND",
 ];
 
+#[rustfmt::skip]
 const COMMANDS: &[&str] = &[
     "\\set x 'a b'\n", "\\echo `date` \"c\"\n", "\\copy t from 'f.csv' with (format csv); -- not read\n", "\\! ls; rm 'x\n",
     "\\connect - - - -\n", "\\if :x \\echo yes \\else\n", "\\endif\n", "\\d+ account\\d order_line\n", "\\pset format csv\n",
     "\\o |gzip > 'a\\b'\n", "\\o\n", "\\w out.sql\n", "\\sf my_function(int)\n", "\\h select; x\n", "\\unrestrict k3y\n",
 ];
 
+#[rustfmt::skip]
 const ENDINGS: &[&str] = &[
     ";\n", ";\n\n", ";\n", ";\r\n", " ;", "\\g\n", "\\gx\n", "\\gset pre_\n", " \\gexec\n", "\\g out.txt\n", "\\g |less\\;x\n",
     "\\g (format=csv border=2) |cat \\\\;\n", "\\gx (title='a)b' expanded) o\\\\ ;\n", "\\watch 2\n", "\\crosstabview\n",
@@ -58,8 +73,22 @@ impl Family for Scripts {
 /// A statement with its ending, a comment, or a psql command.
 fn add_part(chance: &mut Chance, out: &mut Vec<u8>) {
     match chance.below(10) {
-        0 => add(out, &["-- Name: ", chance.one_of(NAMES), "; Type: TABLE; Owner: o'neil\n--\n\n"]),
-        1 => add(out, &["/* kept; ", chance.one_of(&["", "/* nested */", "-- "]), " */\n"]),
+        0 => add(
+            out,
+            &[
+                "-- Name: ",
+                chance.one_of(NAMES),
+                "; Type: TABLE; Owner: o'neil\n--\n\n",
+            ],
+        ),
+        1 => add(
+            out,
+            &[
+                "/* kept; ",
+                chance.one_of(&["", "/* nested */", "-- "]),
+                " */\n",
+            ],
+        ),
         2 | 3 => add(out, &[chance.one_of(COMMANDS)]),
         _ => {
             add_statement(chance, out);
@@ -71,11 +100,30 @@ fn add_part(chance: &mut Chance, out: &mut Vec<u8>) {
 fn add_statement(chance: &mut Chance, out: &mut Vec<u8>) {
     let name = chance.one_of(NAMES);
     match chance.below(6) {
-        0 => add(out, &["CREATE TABLE ", name, " (\n    id integer DEFAULT ", chance.one_of(VALUES), " NOT NULL,\n    b text\n)"]),
+        0 => add(
+            out,
+            &[
+                "CREATE TABLE ",
+                name,
+                " (\n    id integer DEFAULT ",
+                chance.one_of(VALUES),
+                " NOT NULL,\n    b text\n)",
+            ],
+        ),
         1 => {
             let tag = chance.one_of(&["$$", "$body$", "$_$", "$Ü$"]);
             let body = chance.one_of(BODIES);
-            add(out, &["CREATE FUNCTION ", name, "() RETURNS trigger\n    LANGUAGE plpgsql\n    AS ", tag, body, tag]);
+            add(
+                out,
+                &[
+                    "CREATE FUNCTION ",
+                    name,
+                    "() RETURNS trigger\n    LANGUAGE plpgsql\n    AS ",
+                    tag,
+                    body,
+                    tag,
+                ],
+            );
         }
         2 => {
             add(out, &["INSERT INTO ", name, " VALUES ("]);
@@ -84,11 +132,37 @@ fn add_statement(chance: &mut Chance, out: &mut Vec<u8>) {
             }
             add(out, &[chance.one_of(VALUES), ")"]);
         }
-        3 => add(out, &["SELECT pg_catalog.set_config('search_path', ", chance.one_of(VALUES), ", false)"]),
-        4 => add(out, &["COPY ", name, " (a, b) FROM stdin;\n1\tit's\\n\n\\N\t\\\\x\n\\."]),
+        3 => add(
+            out,
+            &[
+                "SELECT pg_catalog.set_config('search_path', ",
+                chance.one_of(VALUES),
+                ", false)",
+            ],
+        ),
+        4 => add(
+            out,
+            &[
+                "COPY ",
+                name,
+                " (a, b) FROM stdin;\n1\tit's\\n\n\\N\t\\\\x\n\\.",
+            ],
+        ),
         _ => {
-            let operator = chance.one_of(&["=", "<>", "~*", "@>", "||", "#>>", "!~", "^", "%", "->", "?&"]);
-            add(out, &["SELECT * FROM ", name, " WHERE a ", operator, " ", chance.one_of(VALUES)]);
+            let operator = chance.one_of(&[
+                "=", "<>", "~*", "@>", "||", "#>>", "!~", "^", "%", "->", "?&",
+            ]);
+            add(
+                out,
+                &[
+                    "SELECT * FROM ",
+                    name,
+                    " WHERE a ",
+                    operator,
+                    " ",
+                    chance.one_of(VALUES),
+                ],
+            );
         }
     }
 }
@@ -118,7 +192,10 @@ fn damage(chance: &mut Chance, text: &mut Vec<u8>) {
         }
         4 if chance.once_in(4) => text.insert(place, chance.next() as u8),
         _ => {
-            let telling = chance.one_of(&["'", "\"", "$", "$$", "\\", "(", ")", ";", "/*", "*/", "--", "\n", "\r", "`", "|", "\\g ("]);
+            let telling = chance.one_of(&[
+                "'", "\"", "$", "$$", "\\", "(", ")", ";", "/*", "*/", "--", "\n", "\r", "`", "|",
+                "\\g (",
+            ]);
             text.splice(place..place, telling.bytes());
         }
     }
@@ -127,7 +204,9 @@ fn damage(chance: &mut Chance, text: &mut Vec<u8>) {
 /// Texts whose lengths stand on both sides of the most that the program takes.
 pub struct Sizes;
 
-const FILLINGS: &[&str] = &["a", ";", " ", "(", "a;", "é", "𝄞;", "'", "$a$", "/*", "\\d\n", "1.5e", "\\g\n"];
+const FILLINGS: &[&str] = &[
+    "a", ";", " ", "(", "a;", "é", "𝄞;", "'", "$a$", "/*", "\\d\n", "1.5e", "\\g\n",
+];
 const LEAST: usize = 65_534;
 const LENGTHS: usize = 6;
 
