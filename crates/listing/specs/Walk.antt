@@ -51,17 +51,9 @@ walked size w [] = w
 walked size w (t ∷ ts) = walked size (past w t (end-there size w t)) ts
 
 -- a token's line, and after it the end's, if a statement ends there
-abbrev pub end-lines : Walk → Token → Option Cause → List ℕ
-end-lines w t None = []
-end-lines w t (Some cause) = end-bytes (end-line w t cause)
+abbrev pub lines-of-end : Walk → Token → Option Cause → List ℕ
+lines-of-end w t None = []
+lines-of-end w t (Some cause) = end-bytes (end-line w t cause)
 
-abbrev pub token-lines : ℕ → Walk → Token → List ℕ
-token-lines size w t = token-bytes (record { place = w .place; token = t }) ++ end-lines w t (end-there size w t)
-
-abbrev pub lines-on : ℕ → Walk → List Token → List ℕ
-lines-on size w [] = []
-lines-on size w (t ∷ ts) = token-lines size w t ++ lines-on size (past w t (end-there size w t)) ts
-
--- the listing of a text of `size` bytes that has these tokens
-abbrev pub listed : ℕ → List Token → List ℕ
-listed size ts = lines-on size at-front ts ++ total-bytes (total-line (walked size at-front ts))
+abbrev pub lines-of-token : ℕ → Walk → Token → List ℕ
+lines-of-token size w t = token-bytes (record { place = w .place; token = t }) ++ lines-of-end w t (end-there size w t)

@@ -22,8 +22,8 @@ pub enum ProgramFault {
 pub impl From<TextFault> for ProgramFault as ProgramFromText {
     ghost converts = { λ e r. r ≡ InText e };
 
-    fn from(fault: TextFault) -> ProgramFault {
-        ProgramFault::InText(fault)
+    fn from(in_text: TextFault) -> ProgramFault {
+        ProgramFault::InText(in_text)
     }
 }
 

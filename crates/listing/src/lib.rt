@@ -7,7 +7,8 @@ mod walk;
 
 ghost use Prim.Native.Nat.{ℕ, _+_, _≤_, _<_};
 ghost use Rattle.listing.specs.Listed.{Answers, Lists, Refuses, admitted, in-text};
-ghost use Rattle.listing.specs.Walk.{Within, end-there, past, token-lines};
+ghost use Rattle.listing.specs.Standin.{token-at};
+ghost use Rattle.listing.specs.Walk.{Within, end-there, past, lines-of-token};
 ghost use Rattle.std.specs.Of.String.{string-bytes};
 ghost use Rattle.std.specs.Options.{Cases};
 ghost use Rattle.std.specs.Options.{Cases as BySome};
@@ -44,7 +45,8 @@ pub struct Listing {
 }
 
 fn token_at<T: Text>(text: &T, place: u32) -> Option<Token>
-    ensures { λ r. ⌜ BySome r (length (T·Text .bytes (now (text .entry))) ≤ place) (λ t. (0 < t .len) × (place + t .len ≤ length (T·Text .bytes (now (text .entry))))) ⌝ }
+    ensures value { λ r. ⌜ r ≡ token-at (T·Text .bytes (now (text .entry))) place ⌝ }
+    ensures inside { λ r. ⌜ BySome r (length (T·Text .bytes (now (text .entry))) ≤ place) (λ t. (0 < t .len) × (place + t .len ≤ length (T·Text .bytes (now (text .entry))))) ⌝ }
 {
     if place < text.len() {
         Some(Token {
@@ -95,7 +97,7 @@ fn list_token(
     requires within { ⌜ Within (now walk) ⌝ }
     requires some { ⌜ 0 < token .len ⌝ }
     requires inside { ⌜ now walk .place + token .len ≤ size ⌝ }
-    ensures lines { λ r. ⌜ made r (λ _. string-bytes (now (lines .exit)) ≡ string-bytes (now (lines .entry)) ++ token-lines size (now (walk .entry)) token) ⌝ }
+    ensures lines { λ r. ⌜ made r (λ _. string-bytes (now (lines .exit)) ≡ string-bytes (now (lines .entry)) ++ lines-of-token size (now (walk .entry)) token) ⌝ }
     ensures walk { λ r. ⌜ made r (λ _. now (walk .exit) ≡ past (now (walk .entry)) token (end-there size (now (walk .entry)) token)) ⌝ }
 {
     let place = walk.place;
@@ -160,3 +162,6 @@ pub fn list_input(heap: Global, input: &[u8]) -> Result<Listing, AllocError>
         Err(fault) => refusal(heap, fault),
     }
 }
+
+#[cfg(test)]
+mod tests;

@@ -1,8 +1,8 @@
 use mathlib.Core.Path.{sym, _∙_}
 use Rattle.std.specs.Of.String.{string-bytes}
 use Rattle.listing.specs.Lines.{token-bytes, end-bytes}
-use Rattle.listing.specs.Walk.{end-there, end-lines}
-use Rattle.listing.proofs.Walks.{written-twice, end-lines-some}
+use Rattle.listing.specs.Walk.{end-there, lines-of-end}
+use Rattle.listing.proofs.Walks.{written-twice, lines-of-end-some}
 use Rattle.listing.proofs.list_token.Needs as need
 
 pub returns-in-Continue-push-2 : need.returns-in-Continue-push-2
@@ -13,9 +13,9 @@ returns-in-Continue-push-2 c =
     let line = token-bytes (record { place = w .place; token = t }) in
     record {
       lines =
-          written-twice before (string-bytes (c .push .last .lines)) (string-bytes (c .push-in-Some .last .lines)) line (end-bytes (c .in-Some .end)) (end-lines w t (end-there (c .args .size) w t))
+          written-twice before (string-bytes (c .push .last .lines)) (string-bytes (c .push-in-Some .last .lines)) line (end-bytes (c .in-Some .end)) (lines-of-end w t (end-there (c .args .size) w t))
           (c .in-Continue-push .ensures tt)
           (c .in-Continue-push-2 .ensures tt)
-          (sym (end-lines-some w t (end-there (c .args .size) w t) (c .in-Some .end) (sym (c .pass .ensures .line) ∙ c .in-Some .is)));
+          (sym (lines-of-end-some w t (end-there (c .args .size) w t) (c .in-Some .end) (sym (c .pass .ensures .line) ∙ c .in-Some .is)));
       walk = c .pass .ensures .after;
     }

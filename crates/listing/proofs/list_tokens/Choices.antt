@@ -11,7 +11,7 @@ Inv-loop-token g l =
     (l .size ≡ length (g .T·Text .bytes (l .text)))
     × (l .walk .place ≤ l .size)
     × Within (l .walk)
-    × Walking (l .size) (l .walk) (string-bytes (l .lines))
+    × Walking (g .T·Text .bytes (l .text)) (l .size) (l .walk) (string-bytes (l .lines))
 
 abbrev pub μ-loop-token : given.MeasureT-loop-token
 μ-loop-token g l = l .size - l .walk .place
