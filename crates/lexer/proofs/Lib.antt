@@ -1,1 +1,11 @@
+mod Comments
+mod Dollars
+mod Moves
+mod Numbers
+mod PsqlArgs
+mod PsqlLens
+mod PsqlWords
+mod Quotes
+mod Rest
+mod Starts
 mod Table

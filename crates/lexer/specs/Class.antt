@@ -44,6 +44,10 @@ ident-cont b = letter b || (decimal b || (eqb b 95 || (eqb b 36 || leb 128 b)))
 abbrev pub ident-start : ℕ → Bool
 ident-start b = ident-cont b && (not (decimal b) && not (eqb b 36))
 
+-- a dollar quote's tag is made of these but `$`
+abbrev pub tag-cont : ℕ → Bool
+tag-cont b = ident-cont b && not (eqb b 36)
+
 -- one of two bytes, and any other byte
 abbrev pub one-of : ℕ → ℕ → ℕ → Bool
 one-of x y b = eqb b x || eqb b y

@@ -1,2 +1,11 @@
 pub mod Class
+pub mod Comment
+pub mod Cursor
+pub mod Dollar
+pub mod Lex
+pub mod Number
+pub mod Psql
+pub mod PsqlArg
+pub mod Quoted
+pub mod Start
 pub mod Token

@@ -4,7 +4,7 @@
 //! class below holds all of these bytes or none, so that a run never stops inside a character.
 
 ghost use Prim.Native.Nat.{ℕ};
-ghost use Rattle.lexer.specs.Class.{all-but, command-letter, decimal, hexadecimal, ident-cont, ident-start, line-blank, whitespace};
+ghost use Rattle.lexer.specs.Class.{all-but, command-letter, decimal, hexadecimal, ident-cont, ident-start, line-blank, tag-cont, whitespace};
 ghost use mathlib.Core.Bool.{Bool, false};
 ghost use mathlib.Core.Path.{_≡_};
 
@@ -64,6 +64,30 @@ pub(crate) impl Class for IdentCont as IdentContClass {
     }
 }
 
+/// What an identifier may start with.
+#[derive(Clone, Copy)]
+pub(crate) struct IdentStart;
+
+pub(crate) impl Class for IdentStart as IdentStartClass {
+    ghost holds = { λ _. ident-start };
+
+    fn has(&self, byte: u8) -> bool {
+        is_ident_start(byte)
+    }
+}
+
+/// What the tag of a dollar quote is made of: an identifier without dollar signs.
+#[derive(Clone, Copy)]
+pub(crate) struct TagCont;
+
+pub(crate) impl Class for TagCont as TagContClass {
+    ghost holds = { λ _. tag-cont };
+
+    fn has(&self, byte: u8) -> bool {
+        is_ident_cont(byte) && byte != b'$'
+    }
+}
+
 /// Any character but the two named ones, which are ASCII: the complement of what a search looks for.
 #[derive(Clone, Copy)]
 pub(crate) struct AllBut(pub u8, pub u8);
@@ -87,7 +111,16 @@ pub(crate) trait DigitClass {
 }
 
 /// 0 to 9.
+#[derive(Clone, Copy)]
 pub(crate) struct DecimalDigit;
+
+pub(crate) impl Class for DecimalDigit as DecimalDigitClass {
+    ghost holds = { λ _. decimal };
+
+    fn has(&self, byte: u8) -> bool {
+        byte.is_ascii_digit()
+    }
+}
 
 pub(crate) impl DigitClass for DecimalDigit as DecimalDigits {
     ghost digit = { decimal };

@@ -3,7 +3,7 @@ use mathlib.Core.Path.{_≡_, refl, sym, ap, _∙_}
 use mathlib.Core.Bool.{Bool, true, false, cond, _&&_}
 use mathlib.Core.List.{List, [], _∷_}
 use mathlib.Core.Logic.{_⊎_, inl, inr}
-use Prim.Native.Nat.{ℕ, zero, suc, pred, _+_, _-_, _≤_, _<_}
+use Prim.Native.Nat.{ℕ, suc, _+_, _-_, _≤_, _<_}
 use native.Mathlib.Omega.{arith}
 use lib.Dec.{eqb}
 use lib.ListN.{length, drop}
@@ -13,12 +13,12 @@ use Rattle.std.specs.shelf.Maps.{nth}
 use Rattle.std.proofs.shelf.Lists.{drop-all}
 use Rattle.text.specs.Clip.{longest}
 use Rattle.text.specs.Fit.{checked}
-use Rattle.text.specs.declared.fault.TextFault.the-variants.{IllFormed}
+use Rattle.text.specs.declared.fault.TextFault.the-variants.{TooLong, IllFormed}
 use Rattle.text.proofs.Places.{nth-drop, nth-beyond}
-use Rattle.std.proofs.shelf.Ways.{tells, leb-tells}
+use Rattle.std.proofs.shelf.Ways.{tells}
 use Rattle.std.specs.declared.option.Option.{Option}
 use Rattle.std.specs.declared.option.Option.the-variants.{Some, None}
-use Rattle.text.specs.Utf8.{Row, Range, tail, table, holds, matches, matched, sequence, sound, sound-after}
+use Rattle.text.specs.Utf8.{Row, table, holds, matches, matched, sequence, sound, sound-after}
 use Rattle.text.specs.Checker.{Progress, between, left-after, came-to, step, none-left}
 
 -- each byte begins at most one row
@@ -47,7 +47,7 @@ Full [] = Unit {0}
 Full ([] ∷ rows) = ⊥
 Full ((range ∷ row) ∷ rows) = Full rows
 
-abbrev grown : List Row → List ℕ → ℕ
+abbrev pub grown : List Row → List ℕ → ℕ
 grown [] bs = 0
 grown (row ∷ rows) bs = cond (matches row bs) (suc (length row)) (grown rows bs)
 
@@ -69,11 +69,11 @@ pub told-more : (i n b : ℕ) (bs : List ℕ) → told i (suc n) (b ∷ bs) ≡ 
 unfolding sound-after
 told-more i n b bs = grind (arith, tells)
 
-sound-none : (b : ℕ) (bs : List ℕ) → sequence (b ∷ bs) ≡ 0 → sound (b ∷ bs) ≡ 0
+pub sound-none : (b : ℕ) (bs : List ℕ) → sequence (b ∷ bs) ≡ 0 → sound (b ∷ bs) ≡ 0
 unfolding sound-after
 sound-none b bs e = rw e
 
-sound-one : (b n : ℕ) (bs : List ℕ) → sequence (b ∷ bs) ≡ suc n → sound (b ∷ bs) ≡ suc (sound-after n bs)
+pub sound-one : (b n : ℕ) (bs : List ℕ) → sequence (b ∷ bs) ≡ suc n → sound (b ∷ bs) ≡ suc (sound-after n bs)
 unfolding sound-after
 sound-one b n bs e = rw e (grind (arith, tells))
 
@@ -134,6 +134,9 @@ found-row (range ∷ row) n i m (b ∷ bs) e =
 found-told : (i : ℕ) (bs : List ℕ) → found between i bs ≡ told i 0 bs
 found-told i bs = found-row [] 0 i i bs tt
 
+pub checked-long : (bs : List ℕ) → longest < length bs → checked bs ≡ Err TooLong
+checked-long bs h = grind (arith, tells)
+
 -- the fault of a text that is not too long is the place that is found
 pub checked-ill : (bs : List ℕ) (i : ℕ) → length bs ≤ longest → found between 0 bs ≡ Some i → checked bs ≡ Err (IllFormed i)
 checked-ill bs i h e = let t : told 0 0 bs ≡ Some i = sym (found-told 0 bs) ∙ e in grind (arith, tells)
@@ -147,10 +150,21 @@ step-taken [] n = omega arith
 step-taken ([] ∷ rows) n = omega arith
 step-taken ((range ∷ row) ∷ rows) n = omega arith
 
-module _ (p q : Progress) (xs : List ℕ) (i b : ℕ) (at : nth xs i ≡ Some b) (e : q ≡ step p b) where
+ill-taken : (rows : List Row) (n : ℕ) → none-left (came-to rows n .rows) ≡ true → came-to rows n .taken ≡ n
+ill-taken [] n h = refl
+ill-taken ([] ∷ rows) n h = let z : _≡_ {A = ℕ} 0 1 = cc in absurd (omega arith)
+ill-taken ((range ∷ row) ∷ rows) n h = let z : _≡_ {A = ℕ} 0 1 = cc in absurd (omega arith)
+
+module _ (p q : Progress) (b : ℕ) (e : q ≡ step p b) where
   pub taken-more : q .taken ≤ p .taken + 1
   taken-more = rw e (step-taken (left-after b (p .rows)) (p .taken))
 
+  pub taken-ill : none-left (q .rows) ≡ true → q .taken ≡ p .taken
+  taken-ill h =
+      ap (λ s. s .taken) e
+      ∙ ill-taken (left-after b (p .rows)) (p .taken) (sym (ap (λ s. none-left (s .rows)) e) ∙ h)
+
+module _ (p q : Progress) (xs : List ℕ) (i b : ℕ) (at : nth xs i ≡ Some b) (e : q ≡ step p b) where
   pub found-ill : none-left (q .rows) ≡ true → found p i (drop i xs) ≡ Some (i - q .taken)
   unfolding found
   found-ill h = rw (nth-drop xs i b at, ← e, h)

@@ -1,4 +1,7 @@
-pub mod Clipped
 pub mod Places
-pub mod Leads
+pub mod Clipped
+pub mod Moves
 pub mod Found
+pub mod Encoded
+pub mod Sound
+pub mod Runs

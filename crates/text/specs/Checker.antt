@@ -1,8 +1,11 @@
 -- How far a checker of UTF-8 has come, told by the table.
+use mathlib.Core.Path.{_≡_}
 use mathlib.Core.Bool.{Bool, true, false, cond}
 use mathlib.Core.List.{List, [], _∷_}
 use Prim.Native.Nat.{ℕ, suc}
-use Rattle.text.specs.Utf8.{Row, tail, table, holds}
+use lib.Dec.{ltb}
+use lib.ListN.{length, drop}
+use Rattle.text.specs.Utf8.{Row, tail, table, holds, sound, WellFormed}
 use Rattle.text.specs.declared.utf8.State.{State}
 use Rattle.text.specs.declared.utf8.State.the-variants.{Between, OneOfTwo, AfterE0, OneOfThree, AfterED, AfterF0, OneOfFour, AfterF4, TwoOfThree, TwoOfFour, ThreeOfFour, Ill}
 
@@ -36,6 +39,32 @@ step p b = came-to (left-after b (p .rows)) (p .taken)
 abbrev pub none-left : List Row → Bool
 none-left [] = true
 none-left (row ∷ rows) = false
+
+-- A list of bytes, one by one.
+abbrev pub run : Progress → List ℕ → Progress
+run p [] = p
+run p (b ∷ bs) = run (step p b) bs
+
+-- How many first bytes of a list together begin one of these rows.
+abbrev pub begun : List Row → List ℕ → ℕ
+begun rows [] = 0
+begun rows (b ∷ bs) = cond (none-left (left-after b rows)) 0 (suc (begun (left-after b rows) bs))
+
+-- What follows the well-formed front of a list.
+abbrev pub unsound : List ℕ → List ℕ
+unsound bs = drop (sound bs) bs
+
+-- Where a run from between two sequences comes to, told by the table: as many bytes are taken as begin a row after
+-- the well-formed front, and no row is left if there are more bytes than those. So nothing is taken and a row is
+-- left exactly if all the bytes are well formed.
+pub record Stands (bs : List ℕ) (p : Progress) : Type 0 where
+  pub taken : p .taken ≡ begun table (unsound bs)
+  pub ill : none-left (p .rows) ≡ ltb (begun table (unsound bs)) (length (unsound bs))
+  pub whole : (p .taken ≡ 0) × (none-left (p .rows) ≡ false) → WellFormed bs
+  pub well : WellFormed bs → (p .taken ≡ 0) × (none-left (p .rows) ≡ false)
+
+abbrev pub RunsByTable : Type 0
+RunsByTable = (bs : List ℕ) → Stands bs (run between bs)
 
 -- What each state of the checker says.
 abbrev pub progress : State → Progress

@@ -5,11 +5,14 @@ use crate::Text;
 use crate::TextFault;
 use crate::Utf8Checker;
 ghost use mathlib.Core.Path.{_≡_};
-ghost use Rattle.text.specs.Fit.{checked};
+ghost use Rattle.text.specs.Fit.{checked, TableIsUtf8, Tells};
 
-/// The first fault of a text, found in one pass.
+/// The first fault of a text, in one pass. The length is looked at first: a text that is too long is not looked
+/// into.
 pub fn check<T: Text>(text: &T) -> Result<(), TextFault>
-    ensures { λ r. ⌜ r ≡ checked (bytes (now (text .entry))) ⌝ }
+    ensures value { λ r. ⌜ r ≡ checked (bytes (now (text .entry))) ⌝ }
+    ensures characters { λ r. ⌜ Tells (bytes (now (text .entry))) r ⌝ }
+    ensures table { λ _. ⌜ TableIsUtf8 ⌝ }
 {
     if text.len() > LONGEST {
         return Err(TextFault::TooLong);

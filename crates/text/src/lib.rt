@@ -5,11 +5,19 @@ mod fit;
 mod flat;
 mod halves;
 mod run;
+#[cfg(test)]
+mod tests;
 mod utf8;
 
 pub use fault::Fault;
+pub use fault::FaultDebug;
+pub use fault::FaultPartialEq;
 pub use fault::Layer;
+pub use fault::LayerDebug;
+pub use fault::LayerPartialEq;
 pub use fault::TextFault;
+pub use fault::TextFaultDebug;
+pub use fault::TextFaultPartialEq;
 pub use fit::check;
 pub use flat::Flat;
 pub use flat::FlatText;

@@ -1,8 +1,7 @@
 //! A checker of UTF-8, which is fed a text's bytes one by one.
 
-ghost use Prim.Native.Nat.{ℕ};
 ghost use mathlib.Core.Path.{_≡_};
-ghost use Rattle.text.specs.Checker.{between, none-left, progress, step};
+ghost use Rattle.text.specs.Checker.{between, none-left, progress, step, RunsByTable};
 
 /// How far the checker has come in a sequence. Where the second byte has the usual range, the states go by how
 /// many bytes were taken and of how many; four first bytes narrow the range of the second.
@@ -30,9 +29,10 @@ pub struct Utf8Checker {
 }
 
 impl Utf8Checker {
-    /// A checker that has met no byte.
+    /// A checker that has met no byte. Fed the bytes of any list, it comes to where the table says.
     pub fn new() -> Utf8Checker
-        ensures { λ r. ⌜ progress (r .state) ≡ between ⌝ }
+        ensures start { λ r. ⌜ progress (r .state) ≡ between ⌝ }
+        ensures runs { λ _. ⌜ RunsByTable ⌝ }
     {
         Utf8Checker {
             state: State::Between,

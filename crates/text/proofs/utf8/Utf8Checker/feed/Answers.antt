@@ -4,7 +4,7 @@ use native.Mathlib.Omega.{arith}
 use borrow.Author.Needs.{needs}
 use Rattle.std.proofs.shelf.Ways.{tells}
 use Rattle.text.specs.Checker.{progress}
-use Rattle.text.proofs.Leads.{next, next-progress}
+use Rattle.text.proofs.Moves.{next, next-progress}
 use Rattle.text.proofs.utf8.Utf8Checker.feed.Needs as need
 use Rattle.text.proofs.utf8.Utf8Checker.feed.Needs.{in-Between-eq224, in-Between-eq237, in-Between-eq240, in-Between-eq244, in-Between-0-to-127, in-Between-194-to-223, in-Between-225-to-236, in-Between-241-to-243, in-AfterE0-160-to-191, in-AfterED-128-to-159, in-OneOfThree-128-to-191, in-AfterF0-144-to-191, in-AfterF4-128-to-143, in-OneOfFour-128-to-191, in-TwoOfFour-128-to-191, in-OneOfTwo-128-to-191, in-TwoOfThree-128-to-191, in-ThreeOfFour-128-to-191, in-rest, in-rest·by·in-Between··in-rest··else-this-lt128·then-this-lt194, in-rest·by·in-Between··in-rest··else-this-lt128·else-this-lt194·else-this-lt224·else-this-lt240·else-this-lt244, in-rest·by·in-AfterE0··then-this-lt160, in-rest·by·in-AfterE0··else-this-lt160·else-this-lt192, in-rest·by·in-AfterED··then-this-lt128-2, in-rest·by·in-AfterED··else-this-lt128-2·else-this-lt160-2, in-rest·by·in-OneOfThree··then-this-lt128-3, in-rest·by·in-OneOfThree··else-this-lt128-3·else-this-lt192-2, in-rest·by·in-AfterF0··then-this-lt144, in-rest·by·in-AfterF0··else-this-lt144·else-this-lt192-3, in-rest·by·in-AfterF4··then-this-lt128-4, in-rest·by·in-AfterF4··else-this-lt128-4·else-this-lt144-2, in-rest·by·in-OneOfFour··then-this-lt128-5, in-rest·by·in-OneOfFour··else-this-lt128-5·else-this-lt192-4, in-rest·by·in-TwoOfFour··then-this-lt128-6, in-rest·by·in-TwoOfFour··else-this-lt128-6·else-this-lt192-5, in-rest·by·in-OneOfTwo··then-this-lt128-7, in-rest·by·in-OneOfTwo··else-this-lt128-7·else-this-lt192-6, in-rest·by·in-TwoOfThree··then-this-lt128-8, in-rest·by·in-TwoOfThree··else-this-lt128-8·else-this-lt192-7, in-rest·by·in-ThreeOfFour··then-this-lt128-9, in-rest·by·in-ThreeOfFour··else-this-lt128-9·else-this-lt192-8, in-rest·by·in-Ill·}
 

@@ -1,19 +1,17 @@
--- What is left of the table after a first byte: each byte begins at most one row.
+-- The checker's move, state by state, is the one that the table says.
 use mathlib.Core.Path.{_≡_, refl}
-use mathlib.Core.Bool.{Bool, true, false, cond}
-use mathlib.Core.List.{List, [], _∷_}
-use mathlib.Core.Logic.{_⊎_, inl, inr, ⊎-elim}
-use Prim.Native.Nat.{ℕ, _≤_, _<_}
-use lib.Dec.{leb, eqb}
+use mathlib.Core.Bool.{cond}
+use Prim.Native.Nat.{ℕ}
+use lib.Dec.{leb}
 use native.Mathlib.Omega.{arith}
 use Rattle.std.proofs.shelf.Ways.{tells}
-use Rattle.text.specs.Utf8.{Row, tail, table, holds}
-use Rattle.text.specs.Checker.{left-after, progress, step}
+use Rattle.text.specs.Utf8.{table}
+use Rattle.text.specs.Checker.{progress, step}
 use Rattle.text.specs.declared.utf8.State.{State}
 use Rattle.text.specs.declared.utf8.State.the-variants.{Between, OneOfTwo, AfterE0, OneOfThree, AfterED, AfterF0, OneOfFour, AfterF4, TwoOfThree, TwoOfFour, ThreeOfFour, Ill}
 
 -- the state after the first byte of a sequence
-abbrev pub lead : ℕ → State
+abbrev lead : ℕ → State
 lead b =
     cond (leb b 0x7F) Between
     (cond (leb b 0xC1) (Ill 0)
@@ -26,9 +24,11 @@ lead b =
     (cond (leb b 0xF3) OneOfFour
     (cond (leb b 0xF4) AfterF4 (Ill 0))))))))))
 
-abbrev pub follow : ℕ → ℕ → ℕ → State → State → State
+-- the state after a byte that has to lie in a range
+abbrev follow : ℕ → ℕ → ℕ → State → State → State
 follow low high b s ill = cond (leb low b) (cond (leb b high) s ill) ill
 
+-- the state after any byte
 abbrev pub next : State → ℕ → State
 next Between b = lead b
 next OneOfTwo b = follow 0x80 0xBF b Between (Ill 1)
