@@ -1,8 +1,9 @@
 -- One turn of the comment loop.
-use Prim.Native.Nat.{ℕ, zero, suc, _+_, _-_, _<_}
+use Prim.Native.Nat.{ℕ, zero, suc, _+_, _-_, _<_, _≤_}
 use Rattle.lexer.proofs.Rest.{here, past, within}
 use Rattle.lexer.specs.Comment.{closes, comment, comment-closed, opens}
 use Rattle.std.proofs.shelf.Lists.{drop-drop, getD-drop}
+use Rattle.std.proofs.shelf.Tests.{cond-both}
 use Rattle.std.specs.declared.option.Option.the-variants.{Some, None}
 use Rattle.std.specs.shelf.Maps.{nth}
 use borrow.Author.Tests.{eq-eqb, ne-eqb}
@@ -85,3 +86,15 @@ comment-none xs = refl
 pub closed-none : (xs : List ℕ) → comment-closed 0 xs ≡ true
 unfolding comment-closed
 closed-none xs = refl
+
+-- a comment ends within the list
+pub comment-within : (d : ℕ) (xs : List ℕ) → comment d xs ≤ length xs
+unfolding comment
+comment-within zero xs = omega arith
+comment-within (suc d) [] = omega arith
+comment-within (suc d) (a ∷ []) = omega arith
+comment-within (suc d) (a ∷ b ∷ xs) =
+    let deeper = comment-within (suc (suc d)) xs in
+    let shut = comment-within d xs in
+    let more = comment-within (suc d) (b ∷ xs) in
+    cond-both (opens a b) _ _ (λ n. n ≤ length (a ∷ b ∷ xs)) (λ _. omega arith) (λ _. cond-both (closes a b) _ _ (λ n. n ≤ length (a ∷ b ∷ xs)) (λ _. omega arith) (λ _. omega arith))

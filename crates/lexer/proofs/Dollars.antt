@@ -2,7 +2,8 @@
 use Prim.Native.Nat.{ℕ, suc, _+_, _<_, _≤_}
 use Rattle.lexer.proofs.Moves.{moved-by, moved-rest, moved-trans, next-one}
 use Rattle.lexer.proofs.Rest.{within}
-use Rattle.lexer.specs.Class.{decimal, ident-cont, ident-start, tag-cont}
+use Rattle.lexer.proofs.Runs.{identifier-within, run-within, then-within}
+use Rattle.lexer.specs.Class.{decimal, ident-start, tag-cont}
 use Rattle.lexer.specs.Cursor.{Moved, identifier, next-len, peek, rest, run}
 use Rattle.lexer.specs.Dollar.{begins, delimited, delimited-closed, dollar-delimiter, dollar-len, dollar-opener, opens-dollar, parameter}
 use Rattle.lexer.specs.declared.cursor.Cursor.{Cursor}
@@ -107,20 +108,8 @@ module _ (delimiter : List ℕ) where
     unfolding delimited-closed
     closed-end h = ap (delimited-closed delimiter) (drop-all i xs h)
 
-pub run-within : (class : ℕ → Bool) (xs : List ℕ) → run class xs ≤ length xs
-unfolding run
-run-within class [] = omega arith
-run-within class (x ∷ xs) = let more = run-within class xs in grind arith
-
-pub identifier-within : (xs : List ℕ) → identifier xs ≤ length xs
-identifier-within xs = let word = run-within ident-cont xs in grind arith
-
 pub parameter-within : (xs : List ℕ) → parameter xs ≤ length xs
-parameter-within xs =
-    let front = run-within decimal xs in
-    let junk = identifier-within (drop (run decimal xs) xs) in
-    let left = length-drop (run decimal xs) xs in
-    omega arith
+parameter-within xs = then-within identifier identifier-within (run decimal xs) xs (run-within decimal xs)
 
 pub dollar-within : (xs : List ℕ) → dollar-len xs ≤ length xs
 dollar-within xs =

@@ -7,5 +7,7 @@ mod PsqlLens
 mod PsqlWords
 mod Quotes
 mod Rest
+mod Runs
 mod Starts
 mod Table
+mod Within

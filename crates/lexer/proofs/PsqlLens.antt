@@ -1,6 +1,6 @@
 -- A psql command ends within the text.
 use Prim.Native.Nat.{ℕ, _+_, _-_, _≤_}
-use Rattle.lexer.proofs.Dollars.{run-within}
+use Rattle.lexer.proofs.Runs.{run-within, then-within}
 use Rattle.lexer.specs.Class.{all-but, command-letter, line-blank}
 use Rattle.lexer.specs.Cursor.{peek, run}
 use Rattle.lexer.specs.Psql.{before-pipe, command, command-len, followed, opened-options, psql-len, what-follows}
@@ -43,11 +43,7 @@ options-within state last (x ∷ xs) =
 
 -- two things that each end within what they are given
 pub followed-within : (f g : List ℕ → ℕ) → ((xs : List ℕ) → f xs ≤ length xs) → ((xs : List ℕ) → g xs ≤ length xs) → (xs : List ℕ) → followed f g xs ≤ length xs
-followed-within f g p q xs =
-    let first = p xs in
-    let second = q (drop (f xs) xs) in
-    let left = length-drop (f xs) xs in
-    omega arith
+followed-within f g p q xs = then-within g q (f xs) xs (p xs)
 
 opened-within : (k : Command) (xs : List ℕ) → opened-options k xs ≤ length xs
 opened-within k xs =

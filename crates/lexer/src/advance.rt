@@ -1,9 +1,12 @@
 //! One token after another.
 
-ghost use Prim.Native.Nat.{_+_};
+ghost use Prim.Native.Nat.{_+_, _<_, _≤_};
 ghost use Rattle.lexer.specs.Cursor.{Moved, rest};
 ghost use Rattle.lexer.specs.Lex.{kind-of, marked, rest-len, start-with, token-at, token-from};
-ghost use lib.ListN.{getD};
+ghost use Rattle.lexer.specs.Token.{is-eof};
+ghost use Rattle.std.specs.Options.{Cases};
+ghost use lib.ListN.{getD, length};
+ghost use mathlib.Core.Bool.{false};
 ghost use mathlib.Core.Path.{_≡_};
 use crate::cursor::Cursor;
 use crate::cursor::byte_at;
@@ -101,7 +104,9 @@ impl<'a, T: Text> Cursor<'a, T> {
 /// The token that begins at a place of the text, or none where the place is not below the length. A byte-order mark at the
 /// very start is whitespace of its own.
 pub fn token_at<T: Text>(text: &T, place: u32) -> Option<Token>
-    ensures { λ r. ⌜ r ≡ token-at (T·Text .bytes (now (text .entry))) place ⌝ }
+    ensures value { λ r. ⌜ r ≡ token-at (T·Text .bytes (now (text .entry))) place ⌝ }
+    ensures inside { λ r. ⌜ Cases r (length (T·Text .bytes (now (text .entry))) ≤ place) (λ t. (0 < t .len) × (place + t .len ≤ length (T·Text .bytes (now (text .entry))))) ⌝ }
+    ensures real { λ r. ⌜ Cases r (Unit {0}) (λ t. is-eof (t .kind) ≡ false) ⌝ }
 {
     if place == 0 && starts_with_mark(text) {
         return Some(Token {

@@ -1,6 +1,6 @@
 use Prim.Native.Nat.{ℕ, _+_}
 use Rattle.lexer.proofs.Moves.{moved-by, moved-rest, moved-then, moved-trans, next-one}
-use Rattle.lexer.proofs.Starts.{and-left, and-right, fits-as}
+use Rattle.lexer.proofs.Starts.{fits-as}
 use Rattle.lexer.proofs.cursor.Cursor.finish.Needs as need
 use Rattle.lexer.specs.Class.{all-but}
 use Rattle.lexer.specs.Comment.{comment, comment-closed}
@@ -12,6 +12,7 @@ use Rattle.lexer.specs.declared.start.Start.the-variants.{Block, Dollar, Line,
 use Rattle.lexer.specs.declared.token.LiteralKind.the-variants.{UnicodeEscStr}
 use Rattle.lexer.specs.declared.token.TokenKind.the-variants.{BlockComment, Literal, QuotedIdent}
 use Rattle.std.proofs.shelf.Lists.{drop-drop, getD-drop}
+use Rattle.std.proofs.shelf.Tests.{and-parts}
 use borrow.Author.Tests.{eqb-true}
 use lib.Dec.{eqb}
 use lib.ListN.{drop}
@@ -34,8 +35,8 @@ prefixed-string-requires-in-UnicodeStr g c κs =
     let bytes = g .T·Text .bytes in
     let xs = rest bytes (c .args .self .now) in
     let asked = fits-as (c .args .first-char) (peek 0 xs) (peek 1 xs) UnicodeStr (sym (c .in-UnicodeStr .is) ∙ c .pre .begun) in
-    let one = moved-by (next-one xs 37 (eqb-true (peek 0 xs) 38 (and-left (eqb (peek 0 xs) 38) (eqb (peek 1 xs) 39) asked))) (c .bump-in-UnicodeStr .ensures .moved) in
-    second bytes one ∙ eqb-true (peek 1 xs) 39 (and-right (eqb (peek 0 xs) 38) (eqb (peek 1 xs) 39) asked)
+    let one = moved-by (next-one xs 37 (eqb-true (peek 0 xs) 38 (and-parts (eqb (peek 0 xs) 38) (eqb (peek 1 xs) 39) asked .0))) (c .bump-in-UnicodeStr .ensures .moved) in
+    second bytes one ∙ eqb-true (peek 1 xs) 39 (and-parts (eqb (peek 0 xs) 38) (eqb (peek 1 xs) 39) asked .1)
 
 pub dollar-requires : need.dollar-requires
 dollar-requires g c κs =
@@ -72,7 +73,7 @@ returns-in-UnicodeStr g c =
     let bytes = g .T·Text .bytes in
     let xs = rest bytes (c .args .self .now) in
     let asked = fits-as (c .args .first-char) (peek 0 xs) (peek 1 xs) UnicodeStr (sym (c .in-UnicodeStr .is) ∙ c .pre .begun) in
-    let one = moved-by (next-one xs 37 (eqb-true (peek 0 xs) 38 (and-left (eqb (peek 0 xs) 38) (eqb (peek 1 xs) 39) asked))) (c .bump-in-UnicodeStr .ensures .moved) in
+    let one = moved-by (next-one xs 37 (eqb-true (peek 0 xs) 38 (and-parts (eqb (peek 0 xs) 38) (eqb (peek 1 xs) 39) asked .0))) (c .bump-in-UnicodeStr .ensures .moved) in
     let body = ap (drop 1) (moved-rest bytes one) ∙ drop-drop 1 1 xs in
     let len : 1 + (1 + quoted 39 false (drop 1 (drop 1 xs))) ≡ 2 + quoted 39 false (drop 2 xs) = omega (arith, ap (quoted 39 false) (drop-drop 1 1 xs)) in
     record {
@@ -85,8 +86,8 @@ returns-in-UnicodeIdent g c =
     let bytes = g .T·Text .bytes in
     let xs = rest bytes (c .args .self .now) in
     let asked = fits-as (c .args .first-char) (peek 0 xs) (peek 1 xs) UnicodeIdent (sym (c .in-UnicodeIdent .is) ∙ c .pre .begun) in
-    let one = moved-by (next-one xs 37 (eqb-true (peek 0 xs) 38 (and-left (eqb (peek 0 xs) 38) (eqb (peek 1 xs) 34) asked))) (c .bump-in-UnicodeIdent .ensures .moved) in
-    let quote = second bytes one ∙ eqb-true (peek 1 xs) 34 (and-right (eqb (peek 0 xs) 38) (eqb (peek 1 xs) 34) asked) in
+    let one = moved-by (next-one xs 37 (eqb-true (peek 0 xs) 38 (and-parts (eqb (peek 0 xs) 38) (eqb (peek 1 xs) 34) asked .0))) (c .bump-in-UnicodeIdent .ensures .moved) in
+    let quote = second bytes one ∙ eqb-true (peek 1 xs) 34 (and-parts (eqb (peek 0 xs) 38) (eqb (peek 1 xs) 34) asked .1) in
     let two = moved-trans one (moved-by (next-one _ 33 quote) (c .bump-in-UnicodeIdent-2 .ensures .moved)) in
     record {
       kind = ap (λ b. QuotedIdent b true) (c .double-quoted-string-terminated .ensures .closed ∙ ap (quoted-closed 34 false) (moved-rest bytes two)) ∙ ap (λ s. kind-of s (c .args .first-char) xs) (sym (c .in-UnicodeIdent .is));
