@@ -15,7 +15,7 @@ use Rattle.listing.specs.declared.walk.Walk.{Walk}
 use Rattle.listing.specs.Lines.{end-bytes, total-bytes}
 use Rattle.listing.specs.Walk.{Within, at-front, end-line, end-there, past, lines-of-end, lines-of-token, total-line}
 use Rattle.listing.specs.Listed.{lengths, NoneEmpty, Reads}
-use Rattle.listing.specs.Standin.{token-at}
+use Rattle.lexer.specs.Lex.{token-at}
 
 -- one piece of writing after another
 pub written-twice : (before mid after a b c : List ℕ) → mid ≡ before ++ a → after ≡ mid ++ b → b ≡ c → after ≡ before ++ (a ++ c)

@@ -19,7 +19,7 @@ use Rattle.listing.specs.declared.Listing.{Listing}
 use Rattle.listing.specs.declared.fault.ProgramFault.{ProgramFault}
 use Rattle.listing.specs.declared.fault.ProgramFault.the-variants.{InText, InputTooLong}
 use Rattle.listing.specs.Faults.{longest-input, program-fault}
-use Rattle.listing.specs.Standin.{token-at}
+use Rattle.lexer.specs.Lex.{token-at}
 use Rattle.listing.specs.Lines.{token-bytes, end-bytes, total-bytes, refused-bytes}
 
 -- what the tokens of a list cover

@@ -7,11 +7,9 @@ mod walk;
 
 ghost use Prim.Native.Nat.{ℕ, _+_, _≤_, _<_};
 ghost use Rattle.listing.specs.Listed.{Answers, Lists, Refuses, admitted, in-text};
-ghost use Rattle.listing.specs.Standin.{token-at};
 ghost use Rattle.listing.specs.Walk.{Within, end-there, past, lines-of-token};
 ghost use Rattle.std.specs.Of.String.{string-bytes};
 ghost use Rattle.std.specs.Options.{Cases};
-ghost use Rattle.std.specs.Options.{Cases as BySome};
 ghost use Rattle.std.specs.Vec.{made};
 ghost use Rattle.text.specs.Fit.{checked};
 ghost use lib.ListN.{length};
@@ -21,7 +19,7 @@ pub use fault::LONGEST_INPUT;
 pub use fault::ProgramFault;
 pub use fault::ProgramFromText;
 use lexer::token::Token;
-use lexer::token::TokenKind;
+use lexer::token_at;
 use lines::EndLineDisplay;
 use lines::RefusedLine;
 use lines::RefusedLineDisplay;
@@ -42,20 +40,6 @@ use walk::Walk;
 pub struct Listing {
     pub lines: String,
     pub refused: bool,
-}
-
-fn token_at<T: Text>(text: &T, place: u32) -> Option<Token>
-    ensures value { λ r. ⌜ r ≡ token-at (T·Text .bytes (now (text .entry))) place ⌝ }
-    ensures inside { λ r. ⌜ BySome r (length (T·Text .bytes (now (text .entry))) ≤ place) (λ t. (0 < t .len) × (place + t .len ≤ length (T·Text .bytes (now (text .entry))))) ⌝ }
-{
-    if place < text.len() {
-        Some(Token {
-            kind: TokenKind::Unknown,
-            len: 1,
-        })
-    } else {
-        None
-    }
 }
 
 /// Writes a line after those that are there.
