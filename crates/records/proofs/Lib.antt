@@ -1,0 +1,3 @@
+-- Lemmas of the crate.
+pub mod Digits
+pub mod Lines

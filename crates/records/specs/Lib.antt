@@ -1,0 +1,3 @@
+-- What a recorded list says.
+pub mod Hex
+pub mod Record
