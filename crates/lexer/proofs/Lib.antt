@@ -1,4 +1,5 @@
 mod Comments
+mod Cuts
 mod Dollars
 mod Moves
 mod Numbers

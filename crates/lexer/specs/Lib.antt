@@ -1,7 +1,9 @@
 pub mod Class
 pub mod Comment
 pub mod Cursor
+pub mod Cut
 pub mod Dollar
+pub mod Laws
 pub mod Lex
 pub mod Number
 pub mod Psql
