@@ -4,12 +4,12 @@ use Rattle.lexer.proofs.Rest.{within}
 use Rattle.lexer.proofs.Within.{lex-within}
 use Rattle.lexer.specs.Cursor.{peek}
 use Rattle.lexer.specs.Cut.{cut, cut-after, lengths, mark}
-use Rattle.lexer.specs.Laws.{AddsUp, NoneEmpty, ReadsCut, SameTail, border}
+use Rattle.lexer.specs.Laws.{AddsUp, CutLaws, NoneEmpty, ReadsCut, SameTail, border}
 use Rattle.lexer.specs.Lex.{lex, marked, token-at, token-from}
 use Rattle.lexer.specs.declared.token.Token.{Token}
 use Rattle.std.proofs.shelf.Lists.{drop-drop, length-drop}
 use Rattle.std.proofs.shelf.Tests.{and-parts, cases-bool}
-use borrow.Author.Tests.{eqb-true}
+use borrow.Author.Tests.{eqb-true, le-ltb, lt-ltb, ltb-false, ltb-true, ne-eqb}
 use Rattle.std.specs.declared.option.Option.the-variants.{Some, None}
 use Rattle.std.specs.shelf.Maps.{nth}
 use lib.Dec.{eqb, ltb}
@@ -64,7 +64,7 @@ marked-length xs h =
 pub adds-up : AddsUp
 adds-up xs =
     elim (cases-bool (marked xs)) [
-      inl e ↦ let rest = covered 3 xs (marked-length xs e) in simp e (rest, (omega arith, none-empty 3 xs))
+      | inl e ↦ let rest = covered 3 xs (marked-length xs e) in simp e (rest, (omega arith, none-empty 3 xs))
       | inr e ↦ let all = covered 0 xs (omega arith) in simp e (omega arith, none-empty 0 xs)
     ]
 
@@ -88,9 +88,9 @@ pub after-tokens : (m : ℕ) (xs : List ℕ) → 0 < m → drop m (cut xs) ≡ c
 after-tokens zero xs h = absurd (omega arith)
 after-tokens (suc m) xs h =
     elim (cases-bool (marked xs)) [
-      inl e ↦
-        let ts = cut-after 3 xs in
-        simp e (ap (drop m) (cut-drop 3 xs) ∙ after-border m (drop 3 xs) ∙ ap (λ l. cut-after 0 (drop (lengths (take m l)) (drop 3 xs))) (sym (cut-drop 3 xs)) ∙ ap (cut-after 0) (drop-drop (lengths (take m ts)) 3 xs))
+      | inl e ↦
+          let ts = cut-after 3 xs in
+          simp e (ap (drop m) (cut-drop 3 xs) ∙ after-border m (drop 3 xs) ∙ ap (λ l. cut-after 0 (drop (lengths (take m l)) (drop 3 xs))) (sym (cut-drop 3 xs)) ∙ ap (cut-after 0) (drop-drop (lengths (take m ts)) 3 xs))
       | inr e ↦ simp e (after-border (suc m) xs)
     ]
 
@@ -101,17 +101,46 @@ same-tail xs ys m n p _ q _ e = after-tokens m xs p ∙ ap (cut-after 0) e ∙ s
 first-token : (xs : List ℕ) → nth (cut-after 0 xs) 0 ≡ cond (ltb 0 (length xs)) (Some (token-from xs)) None
 unfolding cut-after
 first-token [] = refl
-first-token (x ∷ xs) = refl
+first-token (x ∷ xs) = sym (ap (λ b. cond b (Some (lex x xs)) None) (lt-ltb 0 (length (x ∷ xs)) (omega arith)))
 
 nth-rest : (ts : List Token) (m : ℕ) → nth ts m ≡ nth (drop m ts) 0
 nth-rest ts zero = refl
 nth-rest [] (suc m) = refl
 nth-rest (t ∷ ts) (suc m) = nth-rest ts m
 
--- a token past the first starts after place 0, unless the text is empty
-later : (xs : List ℕ) (m : ℕ) → 0 < m → 0 < length xs → 0 < border xs m
-later xs m h some = ?
+-- the first token ends after place 0, unless the text is empty
+tokens-cover : (ts : List Token) (m : ℕ) → NoneEmpty ts → 0 < lengths ts → 0 < lengths (take (suc m) ts)
+tokens-cover [] m e h = h
+tokens-cover (t ∷ ts) m e h = let some = e .0 in omega arith
+
+none-read : (m : ℕ) → token-at [] (border [] (suc m)) ≡ nth (cut []) (suc m)
+unfolding cut-after
+none-read m = refl
 
 pub reads-cut : ReadsCut
-reads-cut xs zero = ?
-reads-cut xs (suc m) = ?
+reads-cut xs zero =
+    elim (cases-bool (marked xs)) [
+      | inl e ↦ simp e
+      | inr e ↦ simp e (sym (first-token xs))
+    ]
+reads-cut [] (suc m) = none-read m
+reads-cut (x ∷ xs) (suc m) =
+    let bs = x ∷ xs in
+    let p = border bs (suc m) in
+    let all = adds-up bs in
+    let past = tokens-cover (cut bs) m (all .1) (omega (arith, all .0)) in
+    let later = ne-eqb p 0 (λ z. omega (arith, z)) in
+    let next = nth-rest (cut bs) (suc m) ∙ ap (λ l. nth l 0) (after-tokens (suc m) bs (omega arith)) ∙ first-token (drop p bs) in
+    let left = length-drop p bs in
+    let here = ap (λ b. cond (b && marked bs) (Some mark) (cond (ltb p (length bs)) (Some (token-from (drop p bs))) None)) later in
+    elim (cases-bool (ltb p (length bs))) [
+      | inl e ↦
+          let within = ltb-true p (length bs) e in
+          here ∙ ap (λ b. cond b (Some (token-from (drop p bs))) None) (e ∙ sym (lt-ltb 0 (length (drop p bs)) (omega arith))) ∙ sym next
+      | inr e ↦
+          let beyond = ltb-false p (length bs) e in
+          here ∙ ap (λ b. cond b (Some (token-from (drop p bs))) None) (e ∙ sym (le-ltb 0 (length (drop p bs)) (omega arith))) ∙ sym next
+    ]
+
+pub cut-laws : CutLaws
+cut-laws = record { reads-cut = reads-cut; adds-up = adds-up; same-tail = same-tail }
