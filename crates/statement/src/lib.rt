@@ -146,7 +146,7 @@ impl Ends {
 
     /// Passes tokens up to the next end, and answers the statement that they make, or `None` if there are
     /// no tokens. The last of the tokens counts as the text's last.
-    pub fn statement(&mut self, tokens: &[Token]) -> Option<Statement>
+    pub fn next_statement(&mut self, tokens: &[Token]) -> Option<Statement>
         ensures first { λ r. ⌜ r ≡ nth (statements (now (self .entry) .depth) (now (tokens .entry))) 0 ⌝ }
         ensures state { λ r. ⌜ now (self .exit) .depth ≡ state-after (now (self .entry) .depth) (take (tokens-of r) (now (tokens .entry))) ⌝ }
         ensures shared { λ _. ⌜ Shared ⌝ }
@@ -201,8 +201,8 @@ mod tests {
             one(TokenKind::Ident),
         ];
         let mut ends = Ends::new();
-        check_eq(ends.statement(&tokens), ended(6, 6, Cause::Semicolon))?;
-        check_eq(ends.statement(&tokens[6..]), ended(1, 1, Cause::Last))
+        check_eq(ends.next_statement(&tokens), ended(6, 6, Cause::Semicolon))?;
+        check_eq(ends.next_statement(&tokens[6..]), ended(1, 1, Cause::Last))
     }
 
     #[test]
@@ -219,7 +219,7 @@ mod tests {
             one(TokenKind::Semi),
         ];
         check_eq(
-            Ends::new().statement(&tokens),
+            Ends::new().next_statement(&tokens),
             ended(4, 4, Cause::Semicolon),
         )
     }
@@ -235,7 +235,7 @@ mod tests {
             one(TokenKind::Semi),
         ];
         check_eq(
-            Ends::new().statement(&tokens),
+            Ends::new().next_statement(&tokens),
             ended(5, 5, Cause::Semicolon),
         )
     }
@@ -253,8 +253,8 @@ mod tests {
             one(TokenKind::Semi),
         ];
         let mut ends = Ends::new();
-        check_eq(ends.statement(&tokens), ended(2, 2, Cause::Command))?;
-        check_eq(ends.statement(&tokens[2..]), ended(2, 1, Cause::Semicolon))
+        check_eq(ends.next_statement(&tokens), ended(2, 2, Cause::Command))?;
+        check_eq(ends.next_statement(&tokens[2..]), ended(2, 1, Cause::Semicolon))
     }
 
     #[test]
@@ -264,7 +264,7 @@ mod tests {
             len: 2,
         };
         check_eq(
-            Ends::new().statement(&[command, one(TokenKind::LineComment)]),
+            Ends::new().next_statement(&[command, one(TokenKind::LineComment)]),
             ended(2, 1, Cause::Last),
         )
     }
@@ -278,11 +278,11 @@ mod tests {
             kind: LiteralKind::Str { terminated: true },
         };
         check_eq(
-            Ends::new().statement(&[one(TokenKind::Ident), one(open)]),
+            Ends::new().next_statement(&[one(TokenKind::Ident), one(open)]),
             ended(2, 2, Cause::Unterminated),
         )?;
         check_eq(
-            Ends::new().statement(&[one(TokenKind::Ident), one(closed)]),
+            Ends::new().next_statement(&[one(TokenKind::Ident), one(closed)]),
             ended(2, 2, Cause::Last),
         )
     }
@@ -291,7 +291,7 @@ mod tests {
     fn text_ends_inside_a_comment() -> Result<(), Fail> {
         let open = TokenKind::BlockComment { terminated: false };
         check_eq(
-            Ends::new().statement(&[one(open)]),
+            Ends::new().next_statement(&[one(open)]),
             ended(1, 0, Cause::Unterminated),
         )
     }
@@ -299,6 +299,6 @@ mod tests {
     #[test]
     fn no_tokens_make_no_statement() -> Result<(), Fail> {
         let none: [Token; 0] = [];
-        check_eq(Ends::new().statement(&none), None)
+        check_eq(Ends::new().next_statement(&none), None)
     }
 }

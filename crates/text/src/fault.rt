@@ -17,6 +17,7 @@ pub enum TextFault {
 #[derive(Clone, Copy, PartialEq, Debug)]
 pub enum Layer {
     Text,
+    Table,
     Program,
 }
 

@@ -13,8 +13,8 @@ use Rattle.statement.specs.Ends.{solid, next-state}
 use Rattle.statement.specs.Statements.{state-after, statements, statements-on}
 use Rattle.statement.proofs.Shares.{shared}
 use Rattle.statement.proofs.Turns.{statements-more, statement-here, state-more, no-tokens}
-use Rattle.statement.proofs.Ends.statement.Needs as need
-use Rattle.statement.proofs.Ends.statement.Needs.{After-end-after, then-is-solid, else-is-solid}
+use Rattle.statement.proofs.Ends.next_statement.Needs as need
+use Rattle.statement.proofs.Ends.next_statement.Needs.{After-end-after, then-is-solid, else-is-solid}
 
 abbrev none : Token
 none = record { kind = Unknown; len = 0 }

@@ -3,7 +3,7 @@ use Prim.Native.Nat.{_-_, _≤_}
 use lib.ListN.{length, take, drop}
 use Rattle.std.specs.shelf.Maps.{nth}
 use Rattle.statement.specs.Statements.{state-after, statements, statements-on}
-use Rattle.statement.proofs.Ends.statement.Given as given
+use Rattle.statement.proofs.Ends.next_statement.Given as given
 
 abbrev pub Inv-loop-passed : given.InvT-loop-passed
 Inv-loop-passed l =
