@@ -1,7 +1,7 @@
 //! Records what the Rust lexer answers for some thousand telling texts, for the program `replay`.
 //!   record FILE [SEED]
 //! For each text: a line with its bytes in hexadecimal digits, the lines of its listing, and an empty line. A text is kept if it is
-//! in the fixed list or shows something that none before it did. Fails if the kept ones do not show all that `demands` names.
+//! in the fixed list or shows something that none before it did. Fails if the kept ones do not show all that `wanted` names.
 
 use feature::{Features, KNOWN, features};
 use mend::Mend;
@@ -28,7 +28,7 @@ fn main() -> ExitCode {
     for family in texts::random_families(seed) {
         record.choose_from(&*family);
     }
-    let missing: Vec<_> = demands().difference(&record.shown).cloned().collect();
+    let missing: Vec<_> = wanted().difference(&record.shown).cloned().collect();
     if !missing.is_empty() {
         eprintln!("record: no text shows {missing:?}");
         return ExitCode::FAILURE;
@@ -115,10 +115,10 @@ fn parts_on_purpose(text: &[u8], listing: &[u8]) -> bool {
 }
 
 /// What the recorded texts have to show.
-fn demands() -> Features {
-    let mut all: Features = token_demands()
+fn wanted() -> Features {
+    let mut all: Features = wanted_tokens()
         .into_iter()
-        .chain(command_demands())
+        .chain(wanted_commands())
         .collect();
     all.extend(["1", "2", "3", "4"].map(|cause| format!("cause {cause}")));
     all.extend(["refused 2", "no token"].map(str::to_string));
@@ -126,7 +126,7 @@ fn demands() -> Features {
 }
 
 /// Every kind, with every value of its flags, bases and absent fields, and with and without junk.
-fn token_demands() -> Vec<String> {
+fn wanted_tokens() -> Vec<String> {
     let mut all = Vec::new();
     let plain = "Unknown Whitespace Ident Semi Slash LineComment Minus Colon Dot DotDot Eq Gt And Lt Bang Plus Tilde Pound Question Or \
         Percent Caret Star Backtick At CloseBracket OpenBracket CloseCurly OpenCurly CloseParen OpenParen Comma";
@@ -153,7 +153,7 @@ fn token_demands() -> Vec<String> {
 }
 
 /// Every word that the lexer knows, read as it should be, and every way in which a command's arguments stop.
-fn command_demands() -> Vec<String> {
+fn wanted_commands() -> Vec<String> {
     let mut all = Vec::new();
     all.extend(ENDING.iter().map(|word| format!("\\{word} ends a query")));
     all.extend(LINES.iter().map(|word| format!("\\{word} takes the line")));
