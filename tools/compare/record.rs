@@ -19,7 +19,7 @@ fn main() -> ExitCode {
         .next()
         .map_or(1, |word| word.parse().expect("a number"));
     let mut record = Record::default();
-    for text in FIXED {
+    for text in FIXED.iter().chain(PARTINGS) {
         record.keep(text.as_bytes());
     }
     for family in texts::whole_families() {
@@ -52,6 +52,15 @@ const FIXED: &[&str] = &[
     "select 'a;b' as \"c;d\", $f$;$f$ /* ; */ -- ;\n;\n", "\\copy t from 'a;\\b\n;", "\\cOPY t\\;\r;", "\\o |a\\b\n\\o a\\b", "\\g (a ')' |b\\c;",
     "\\g (a \")\" |b\\c;", "\\g (a `)` |b\\c;", "\\g (a 'b\nc') |d;", "\\g (a \"b\rc\") |d;", "\\g (a `b\nc`) |d;", "\\g (a '\\)' |b\\c;",
     "\\g (a '\\\n) |b;", "\\gx (a)b) |c\\d;", "\\gx(a) |b\\c;", "\\g", "\\", "\\ a", "\\é a\\b", "\0", "\x7f;", "a\0b",
+];
+
+/// The inputs of docs/DIFFERENCES.md where PostgreSQL or psql reads otherwise and we do as the Rust does.
+#[rustfmt::skip]
+const PARTINGS: &[&str] = &[
+    "E''\n'\\';a';b", "E'\\';a'", "E''\n''';a'", "create function g() returns int language sql begin atomic select 1; end;", "'a'\n'b'",
+    "\\echo a\rb;\nc;", "a \\g '('format=csv) |c \\\\;b\nd;", "a \\g (format=csv)'\\0' |c \\\\;b\nd;", ":a$$;", ":E'\\';", "$E'\\';", "1e$$;",
+    "0x$$;", "1_1$$;", "1e5$$;", "1e--;", "0o9", "X'1''f'", "\\foo a\\\\;b\nc;", "\\\\;a;", "a \\g (format=csv |c \\\\;b\nd;",
+    "\\unrestrict a\\\\;b\nc;", "copy t from stdin;\nit's\n\\.\na;", "\\if false\na(\n\\endif\nb;",
 ];
 
 /// The texts kept so far.

@@ -1,4 +1,4 @@
-//! Whole listings. The expected lines are those of the Rust lexer for the same bytes.
+//! Whole listings. The expected lines are those of the Rust lexer for the same bytes, and by psql's reference page where the two part.
 
 use crate::Listing;
 use crate::list_input;
@@ -212,5 +212,47 @@ fn halves_ill_formed_over_the_seam(rt: LibcRuntime) -> Result<(), Fail> {
         rt.alloc(),
         &Halves::new(b"a\xE0", b"\x80b"),
         "refused 2 1\n",
+    )
+}
+
+/// In the options of `\g (` an escape stands for its character, here `)`, so that the pipe takes the rest of the line.
+#[test]
+fn escapes_close_options(rt: LibcRuntime) -> Result<(), Fail> {
+    let lines = "token 0 1 Ident\n\
+         token 1 1 Whitespace\n\
+         token 2 28 PsqlCommand 1\n\
+         end 0 30 2 3 2\n\
+         token 30 1 Whitespace\n\
+         token 31 1 Ident\n\
+         token 32 1 Semi\n\
+         end 30 3 1 3 2\n\
+         total 33 6 2\n";
+    lists(
+        rt.alloc(),
+        b"a \\g (format=csv'\\051' |c \\\\;b\nd;",
+        lines,
+    )?;
+    lists(
+        rt.alloc(),
+        b"a \\g (format=csv'\\x29' |c \\\\;b\nd;",
+        lines,
+    )
+}
+
+/// There two single quotes stand for one, so that the options go on after `')'''`.
+#[test]
+fn two_quotes_leave_options_open(rt: LibcRuntime) -> Result<(), Fail> {
+    lists(
+        rt.alloc(),
+        b"a \\g (fieldsep=')''' format=csv) |c \\\\;b\nd;",
+        "token 0 1 Ident\n\
+         token 1 1 Whitespace\n\
+         token 2 38 PsqlCommand 1\n\
+         end 0 40 2 3 2\n\
+         token 40 1 Whitespace\n\
+         token 41 1 Ident\n\
+         token 42 1 Semi\n\
+         end 40 3 1 3 2\n\
+         total 43 6 2\n",
     )
 }
