@@ -1,5 +1,5 @@
 mod Comments
-mod Cuts
+pub mod Cuts
 mod Dollars
 mod Moves
 mod Numbers
@@ -7,6 +7,7 @@ mod PsqlArgs
 mod PsqlLens
 mod PsqlWords
 mod Quotes
+pub mod Readings
 mod Rest
 mod Runs
 mod Starts

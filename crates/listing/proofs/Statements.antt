@@ -16,7 +16,9 @@ use Rattle.statement.specs.Ends.{solid, next-state, end-after}
 use Rattle.statement.specs.Statements.{by-end, statements-on}
 use Rattle.listing.specs.declared.walk.Walk.{Walk}
 use Rattle.listing.specs.Lines.{token-bytes, end-bytes, total-bytes}
-use Rattle.listing.specs.Listed.{lengths, NoneEmpty, token-lines, statement-lines, listed}
+use Rattle.lexer.specs.Cut.{lengths}
+use Rattle.lexer.specs.Laws.{NoneEmpty}
+use Rattle.listing.specs.Listed.{token-lines, statement-lines, listed}
 use Rattle.listing.specs.Walk.{at-front, end-there, past, lines-of-end, total-line}
 use Rattle.listing.proofs.Walks.{walked, lines-on, place-past, place-walked}
 

@@ -14,7 +14,9 @@ use Rattle.listing.specs.declared.lines.EndLine.{EndLine}
 use Rattle.listing.specs.declared.walk.Walk.{Walk}
 use Rattle.listing.specs.Lines.{end-bytes, total-bytes}
 use Rattle.listing.specs.Walk.{Within, at-front, end-line, end-there, past, lines-of-end, lines-of-token, total-line}
-use Rattle.listing.specs.Listed.{lengths, NoneEmpty, Reads}
+use Rattle.lexer.proofs.Readings.{Reads}
+use Rattle.lexer.specs.Cut.{lengths}
+use Rattle.lexer.specs.Laws.{NoneEmpty}
 use Rattle.lexer.specs.Lex.{token-at}
 
 -- one piece of writing after another

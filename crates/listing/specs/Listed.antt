@@ -2,15 +2,15 @@
 use mathlib.Core.Bool.{Bool, true, false, cond}
 use mathlib.Core.List.{List, [], _∷_, _++_}
 use mathlib.Core.Path.{_≡_}
-use Prim.Native.Nat.{ℕ, _+_, _<_}
+use Prim.Native.Nat.{ℕ, _+_}
 use lib.Dec.{ltb}
 use lib.ListN.{length, take, drop}
 use Rattle.std.specs.Of.String.{string-bytes}
-use Rattle.std.specs.declared.option.Option.the-variants.{Some}
 use Rattle.std.specs.declared.result.Result.{Result}
 use Rattle.std.specs.declared.result.Result.the-variants.{Ok, Err}
 use Rattle.text.specs.Fit.{checked}
 use Rattle.text.specs.declared.fault.TextFault.{TextFault}
+use Rattle.lexer.specs.Cut.{cut, lengths}
 use Rattle.lexer.specs.declared.token.Token.{Token}
 use Rattle.statement.specs.declared.Statement.{Statement}
 use Rattle.statement.specs.Ends.{first-state}
@@ -19,22 +19,7 @@ use Rattle.listing.specs.declared.Listing.{Listing}
 use Rattle.listing.specs.declared.fault.ProgramFault.{ProgramFault}
 use Rattle.listing.specs.declared.fault.ProgramFault.the-variants.{InText, InputTooLong}
 use Rattle.listing.specs.Faults.{longest-input, program-fault}
-use Rattle.lexer.specs.Lex.{token-at}
 use Rattle.listing.specs.Lines.{token-bytes, end-bytes, total-bytes, refused-bytes}
-
--- what the tokens of a list cover
-abbrev pub lengths : List Token → ℕ
-lengths [] = 0
-lengths (t ∷ ts) = t .len + lengths ts
-
--- tokens read one after another, each where the one before it ends
-abbrev pub Reads : List ℕ → ℕ → List Token → Type 0
-Reads bs place [] = Unit {0}
-Reads bs place (t ∷ ts) = (token-at bs place ≡ Some t) × Reads bs (place + t .len) ts
-
-abbrev pub NoneEmpty : List Token → Type 0
-NoneEmpty [] = Unit {0}
-NoneEmpty (t ∷ ts) = (0 < t .len) × NoneEmpty ts
 
 -- the lines of tokens that lie one after another from a place on
 abbrev pub token-lines : ℕ → List Token → List ℕ
@@ -61,14 +46,10 @@ pub record Refuses (fault : ProgramFault) (l : Listing) : Type 0 where
   pub refused : l .refused ≡ true
   pub line : string-bytes (l .lines) ≡ refused-bytes (record { number = program-fault fault .number; place = program-fault fault .place })
 
--- the lines of a text: its tokens are read from its start to its end
+-- the lines of a text are those of its cut
 pub record Lists (bs : List ℕ) (l : Listing) : Type 0 where
   pub refused : l .refused ≡ false
-  pub tokens : List Token
-  pub reads : Reads bs 0 tokens
-  pub cover : lengths tokens ≡ length bs
-  pub none-empty : NoneEmpty tokens
-  pub lines : string-bytes (l .lines) ≡ listed tokens
+  pub lines : string-bytes (l .lines) ≡ listed (cut bs)
 
 -- a text is listed if it is fit, and else refused
 abbrev pub Answers : List ℕ → Result (Unit {0}) ProgramFault → Listing → Type 0

@@ -227,16 +227,8 @@ fn escapes_close_options(rt: LibcRuntime) -> Result<(), Fail> {
          token 32 1 Semi\n\
          end 30 3 1 3 2\n\
          total 33 6 2\n";
-    lists(
-        rt.alloc(),
-        b"a \\g (format=csv'\\051' |c \\\\;b\nd;",
-        lines,
-    )?;
-    lists(
-        rt.alloc(),
-        b"a \\g (format=csv'\\x29' |c \\\\;b\nd;",
-        lines,
-    )
+    lists(rt.alloc(), b"a \\g (format=csv'\\051' |c \\\\;b\nd;", lines)?;
+    lists(rt.alloc(), b"a \\g (format=csv'\\x29' |c \\\\;b\nd;", lines)
 }
 
 /// There two single quotes stand for one, so that the options go on after `')'''`.

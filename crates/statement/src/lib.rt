@@ -254,7 +254,10 @@ mod tests {
         ];
         let mut ends = Ends::new();
         check_eq(ends.next_statement(&tokens), ended(2, 2, Cause::Command))?;
-        check_eq(ends.next_statement(&tokens[2..]), ended(2, 1, Cause::Semicolon))
+        check_eq(
+            ends.next_statement(&tokens[2..]),
+            ended(2, 1, Cause::Semicolon),
+        )
     }
 
     #[test]

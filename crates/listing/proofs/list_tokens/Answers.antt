@@ -5,7 +5,9 @@ use mathlib.Core.List.{_++_}
 use lib.ListN.{length}
 use borrow.Author.Needs.{needs}
 use Rattle.std.specs.Of.String.{string-bytes}
+use Rattle.lexer.proofs.Readings.{reads-all}
 use Rattle.listing.specs.Lines.{total-bytes}
+use Rattle.listing.specs.Listed.{listed}
 use Rattle.listing.specs.Walk.{Within, end-there}
 use Rattle.listing.proofs.Walks.{Walking, within-past, place-past, walking-none, walking-more, walking-cover, walking-all}
 use Rattle.listing.proofs.Statements.{walk-lists}
@@ -38,9 +40,5 @@ returns g c =
     let cover = walking-cover bs size w out so (omega (arith, inv .0, inv .1, c .in-rest .ensures tt .inside)) in
     record {
       refused = refl;
-      tokens = so .tokens;
-      reads = so .reads;
-      cover = cover;
-      none-empty = so .none-empty;
-      lines = walking-all bs size w out so (string-bytes (c .push .last .lines)) (c .in-Continue-push .ensures tt ∙ ap (λ l. out ++ total-bytes l) (c .total-line .ensures)) ∙ walk-lists size (so .tokens) cover (so .none-empty);
+      lines = walking-all bs size w out so (string-bytes (c .push .last .lines)) (c .in-Continue-push .ensures tt ∙ ap (λ l. out ++ total-bytes l) (c .total-line .ensures)) ∙ walk-lists size (so .tokens) cover (so .none-empty) ∙ ap listed (reads-all bs (so .tokens) (so .reads) cover);
     }
