@@ -1,5 +1,7 @@
 mod Comments
 mod Cuts
+mod Decided
+mod DecidedParts
 mod Dollars
 mod Moves
 mod Numbers
