@@ -34,10 +34,12 @@ module _ {Y : Type 0} where
   chosen b f e g h same first second p s t room =
       ap (λ c. cond c (g (p ++ t)) (h (p ++ t))) (same p s t room) ∙ alike (b (p ++ s)) (f (p ++ s)) (e (p ++ s)) (first p s t) (second p s t) room
 
-  -- what follows the first byte
-  pub past-one : (f : List ℕ → ℕ) (g : List ℕ → Y) → Decided f g → Decided (λ xs. 1 + f (drop 1 xs)) (λ xs. g (drop 1 xs))
-  past-one f g d [] s t h = absurd (omega arith)
-  past-one f g d (x ∷ p) s t h = d p s t (omega arith)
+  -- what goes by the first two bytes, and by more as these say
+  pub by-front : {K : Type 0} (k : ℕ → ℕ → K) (f : K → List ℕ → ℕ) (g : K → List ℕ → Y) → ((j : K) → Decided (f j) (g j))
+      → Decided (λ xs. f (k (peek 0 xs) (peek 1 xs)) xs) (λ xs. g (k (peek 0 xs) (peek 1 xs)) xs)
+  by-front k f g d [] s t h = absurd (omega arith)
+  by-front k f g d (x ∷ []) s t h = absurd (omega arith)
+  by-front k f g d (x ∷ y ∷ p) s t h = d (k x y) (x ∷ y ∷ p) s t h
 
   -- one thing, and another that follows it and may go by what the first is
   module _ (f : List ℕ → ℕ) (e : ℕ → List ℕ → List ℕ → ℕ) (g : ℕ → List ℕ → List ℕ → Y) (front : Decided f f) (behind : (n : ℕ) (w : List ℕ) → Decided (e n w) (g n w)) where
@@ -48,10 +50,10 @@ module _ {Y : Type 0} where
         let room : n ≤ length p = omega arith in
         let same = front p s t (omega arith) in
         let split : (u : List ℕ) → g n (take n (p ++ u)) (drop n (p ++ u)) ≡ g n w (drop n p ++ u) =
-                λ u. ap (λ l. g n l (drop n (p ++ u))) (take-append-le n p u room) ∙ ap (g n w) (drop-append-le n p u room)
+        λ u. ap (λ l. g n l (drop n (p ++ u))) (take-append-le n p u room) ∙ ap (g n w) (drop-append-le n p u room)
         in
         let count : e n (take n (p ++ s)) (drop n (p ++ s)) ≡ e n w (drop n p ++ s) =
-                ap (λ l. e n l (drop n (p ++ s))) (take-append-le n p s room) ∙ ap (e n w) (drop-append-le n p s room)
+        ap (λ l. e n l (drop n (p ++ s))) (take-append-le n p s room) ∙ ap (e n w) (drop-append-le n p s room)
         in
         let left = length-drop n p in
         ap (λ m. g m (take m (p ++ t)) (drop m (p ++ t))) same ∙ split t ∙ behind n w (drop n p) s t (omega arith) ∙ sym (split s)
@@ -59,3 +61,14 @@ module _ {Y : Type 0} where
 -- the length of both
 pub both-counted : (f e : List ℕ → ℕ) → Decided f f → Decided e e → Decided (λ xs. f xs + e (drop (f xs) xs)) (λ xs. f xs + e (drop (f xs) xs))
 both-counted f e front behind = in-turn f (λ _ _ xs. e xs) (λ n _ xs. n + e xs) front (λ n _ p s t h. ap (λ m. n + m) (behind p s t h))
+
+-- the same after so many bytes
+pub past : {Y : Type 0} (n : ℕ) (f : List ℕ → ℕ) (g : List ℕ → Y) → Decided f g → Decided (λ xs. n + f (drop n xs)) (λ xs. g (drop n xs))
+past n f g d = in-turn (λ _. n) (λ _ _ xs. f xs) (λ _ _ xs. g xs) (λ _ _ _ _. refl) (λ _ _. d)
+
+pub past-counted : (n : ℕ) (f : List ℕ → ℕ) → Decided f f → Decided (λ xs. n + f (drop n xs)) (λ xs. n + f (drop n xs))
+past-counted n f d = both-counted (λ _. n) f (λ _ _ _ _. refl) d
+
+-- what the first of two goes by, both go by
+pub first-of : {Y : Type 0} (f e : List ℕ → ℕ) (g : List ℕ → Y) → Decided f g → Decided (λ xs. f xs + e (drop (f xs) xs)) g
+first-of f e g d = wider f (λ xs. f xs + e (drop (f xs) xs)) g (λ xs. omega arith) d

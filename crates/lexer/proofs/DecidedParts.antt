@@ -1,23 +1,22 @@
 -- Each part of a token goes by its own bytes and the two after it.
 use Prim.Native.Nat.{ℕ, zero, suc, _+_, _≤_}
-use Rattle.lexer.proofs.Decided.{Decided, alike, both-counted, chosen, seen, wider}
-use Rattle.lexer.proofs.Dollars.{begins-fits}
-use Rattle.lexer.specs.Class.{ident-cont, ident-start, line-blank}
+use Rattle.lexer.proofs.Decided.{Decided, alike, chosen}
+use Rattle.lexer.specs.Class.{backslash, ident-cont, ident-start, line-blank}
 use Rattle.lexer.specs.Comment.{closes, comment, comment-closed, opens}
-use Rattle.lexer.specs.Cursor.{digit-met, digits, identifier, leads, peek, run}
+use Rattle.lexer.specs.Cursor.{digit-met, digits, identifier, leads, run}
 use Rattle.lexer.specs.Dollar.{begins, delimited, delimited-closed}
 use Rattle.lexer.specs.PsqlArg.{after, arguments, last-after, options, separates, stops}
 use Rattle.lexer.specs.Quoted.{quoted, quoted-closed}
-use Rattle.lexer.specs.Class.{backslash}
 use Rattle.lexer.specs.declared.psql_arg.ArgState.{ArgState}
 use Rattle.lexer.specs.declared.psql_arg.ArgState.the-variants.{Outside}
+use Rattle.std.proofs.shelf.Lists.{length-append}
 use Rattle.std.proofs.shelf.Tests.{cases-bool}
 use lib.Dec.{eqb}
-use lib.ListN.{drop, length}
+use lib.ListN.{length}
 use mathlib.Core.Bool.{Bool, true, false, cond, _&&_, _||_}
 use mathlib.Core.List.{List, [], _∷_, _++_}
 use mathlib.Core.Logic.{inl, inr}
-use mathlib.Core.Path.{_≡_, refl, ap, sym, _∙_}
+use mathlib.Core.Path.{_≡_, refl, ap, _∙_}
 use native.Mathlib.Omega.{arith}
 
 pub run-decided : (class : ℕ → Bool) → Decided (run class) (run class)
@@ -132,3 +131,24 @@ delimited-whole ds (x ∷ xs) h =
       | inl e ↦ simp e (omega arith)
       | inr e ↦ let more = delimited-whole ds xs (let k = simp e at h in omega arith) in simp e (omega arith)
     ]
+
+module _ (ds : List ℕ) where
+  delimiter-fits : (p s : List ℕ) → delimited ds (p ++ s) + 2 ≤ length p → length ds ≤ length p
+  delimiter-fits p s h =
+      let all = length-append p s in
+      let whole = delimited-whole ds (p ++ s) (omega arith) in
+      omega arith
+
+  pub delimited-decided : Decided (delimited ds) (delimited ds)
+  unfolding delimited
+  delimited-decided [] s t h = absurd (omega arith)
+  delimited-decided (x ∷ p) s t h =
+      ap (λ b. cond b (length ds) (1 + delimited ds (p ++ t))) (begins-front ds (x ∷ p) s t (delimiter-fits (x ∷ p) s h))
+      ∙ alike (begins ds (x ∷ p ++ s)) (length ds) (1 + delimited ds (p ++ s)) (λ _. refl) (λ k. ap (λ n. 1 + n) (delimited-decided p s t (omega arith))) h
+
+  pub delimited-closed-decided : Decided (delimited ds) (delimited-closed ds)
+  unfolding delimited delimited-closed
+  delimited-closed-decided [] s t h = absurd (omega arith)
+  delimited-closed-decided (x ∷ p) s t h =
+      ap (λ b. cond b true (delimited-closed ds (p ++ t))) (begins-front ds (x ∷ p) s t (delimiter-fits (x ∷ p) s h))
+      ∙ alike (begins ds (x ∷ p ++ s)) (length ds) (1 + delimited ds (p ++ s)) (λ _. refl) (λ k. delimited-closed-decided p s t (omega arith)) h

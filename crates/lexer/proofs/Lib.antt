@@ -1,8 +1,12 @@
 mod Comments
 mod Cuts
 mod Decided
+mod DecidedCommands
+mod DecidedDollars
+mod DecidedNumbers
 mod DecidedParts
 mod Dollars
+mod Local
 mod Moves
 mod Numbers
 mod PsqlArgs
