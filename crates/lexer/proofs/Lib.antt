@@ -1,3 +1,4 @@
+mod Beside
 mod Comments
 mod Cuts
 mod Decided
@@ -16,5 +17,6 @@ mod Quotes
 mod Rest
 mod Runs
 mod Starts
+mod Stopped
 mod Table
 mod Within

@@ -1,8 +1,10 @@
--- What of a text a token goes by.
+-- What of a text a token goes by, and where it ends in well-formed UTF-8.
 use Prim.Native.Nat.{ℕ, _+_, _≤_}
 use Rattle.lexer.specs.Cut.{cut}
 use Rattle.lexer.specs.Laws.{border}
 use Rattle.lexer.specs.Lex.{lex}
+use Rattle.std.specs.Text.{Utf8}
+use Rattle.std.specs.Words.{Boundary}
 use lib.ListN.{length, take}
 use mathlib.Core.List.{List}
 use mathlib.Core.Path.{_≡_}
@@ -16,3 +18,7 @@ Local =
 abbrev pub SameFront : Type 0
 SameFront =
     (xs ys : List ℕ) (m : ℕ) → border xs m + 2 ≤ length xs → take (border xs m + 2) xs ≡ take (border xs m + 2) ys → take m (cut ys) ≡ take m (cut xs)
+
+-- in well-formed UTF-8 every border falls between two characters, or at an end of the text
+abbrev pub BetweenCharacters : Type 0
+BetweenCharacters = (xs : List ℕ) → Utf8 xs → (m : ℕ) → Boundary xs (border xs m)
