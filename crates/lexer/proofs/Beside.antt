@@ -1,26 +1,20 @@
--- A token ends beside an ASCII byte or at the end of the text, and so between two characters.
-use Prim.Native.Nat.{ℕ, zero, suc, _+_, _<_, _≤_}
+-- The parts of a token end beside an ASCII byte, or at the end of the text.
+use Prim.Native.Nat.{ℕ, zero, suc, _+_, _<_}
 use Rattle.lexer.proofs.Dollars.{opener-within, opens-sign}
-use Rattle.lexer.proofs.Starts.{each-start}
-use Rattle.lexer.proofs.Stopped.{at-later, command-stopped, fractional-stopped, ident-start-takes, line-stopped, number-stopped, parameter-stopped, then-stopped, word-stopped}
-use Rattle.lexer.specs.Class.{all-but, backslash, ident-start, tag-cont, whitespace}
+use Rattle.lexer.proofs.Stopped.{at-later, command-stopped, parameter-stopped}
+use Rattle.lexer.specs.Class.{backslash, tag-cont, whitespace}
 use Rattle.lexer.specs.Comment.{closes, comment, opens}
 use Rattle.lexer.specs.Cursor.{peek, run}
-use Rattle.lexer.specs.Dollar.{begins, delimited, dollar-delimiter, dollar-len, dollar-opener, dollar-quoted, opens-dollar, parameter}
-use Rattle.lexer.specs.Lex.{lex, rest-len, start-with}
-use Rattle.lexer.specs.Number.{either-case}
-use Rattle.lexer.specs.Psql.{command-len, psql-len}
-use Rattle.lexer.specs.Quoted.{has-escapes, quoted}
-use Rattle.lexer.specs.Start.{plain-start, start-of}
-use Rattle.lexer.specs.declared.start.Start.the-variants.{Word}
-use Rattle.lexer.specs.declared.start.Start.{Start}
+use Rattle.lexer.specs.Dollar.{begins, delimited, dollar-delimiter, dollar-len, dollar-opener, dollar-quoted, opens-dollar}
+use Rattle.lexer.specs.Psql.{psql-len}
+use Rattle.lexer.specs.Quoted.{quoted}
 use Rattle.std.proofs.shelf.Lists.{getD-drop, getD-take, length-take-le}
-use Rattle.std.proofs.shelf.Tests.{and-parts, cases-lt, cond-both, eqb-true, ne-eqb, or-cases}
+use Rattle.std.proofs.shelf.Tests.{and-parts, cond-both, eqb-true}
 use Rattle.std.proofs.shelf.Ways.{tells}
 use borrow.Author.Tests.{clash}
 use lib.Dec.{eqb}
 use lib.ListN.{drop, getD, length, take}
-use mathlib.Core.Bool.{Bool, true, false, cond, _&&_, _||_}
+use mathlib.Core.Bool.{Bool, true, _&&_, _||_}
 use mathlib.Core.List.{List, [], _∷_}
 use mathlib.Core.Logic.{_⊎_, inl, inr}
 use mathlib.Core.Path.{_≡_, refl, ap, subst, sym, _∙_}
@@ -42,14 +36,14 @@ two-later b x y xs n h =
     subst (λ (m : ℕ). Beside b (x ∷ y ∷ xs) m) e (later b x (y ∷ xs) (1 + n) (later x y xs n h))
 
 -- after any bytes, where what stands before what follows them does not matter
-after-any : (n b : ℕ) (xs : List ℕ) (m : ℕ) → ((a : ℕ) → Beside a (drop n xs) m) → Beside b xs (n + m)
+pub after-any : (n b : ℕ) (xs : List ℕ) (m : ℕ) → ((a : ℕ) → Beside a (drop n xs) m) → Beside b xs (n + m)
 after-any zero b xs m f = let e : m ≡ 0 + m = omega arith in subst (λ (k : ℕ). Beside b xs k) e (f b)
 after-any (suc n) b [] m f = inr (omega arith)
 after-any (suc n) b (x ∷ xs) m f =
     let e : 1 + (n + m) ≡ suc n + m = omega arith in
     subst (λ (k : ℕ). Beside b (x ∷ xs) k) e (later b x xs (n + m) (after-any n x xs m f))
 
-quoted-beside : (quote : ℕ) (escapes : Bool) → quote < 128 → (b : ℕ) (xs : List ℕ) → Beside b xs (quoted quote escapes xs)
+pub quoted-beside : (quote : ℕ) (escapes : Bool) → quote < 128 → (b : ℕ) (xs : List ℕ) → Beside b xs (quoted quote escapes xs)
 unfolding quoted
 quoted-beside q e low b [] = inr (omega arith)
 quoted-beside q e low b (x ∷ []) = inr (omega arith)
@@ -62,7 +56,7 @@ quoted-beside q e low b (x ∷ y ∷ xs) =
     (λ _. cond-both (e && backslash x) _ _ (Beside b bs) (λ _. two) (λ _. one))
 
 -- a comment that is closed ends with `/`
-comment-beside : (d b : ℕ) → (d ≡ 0 → b < 128) → (xs : List ℕ) → Beside b xs (comment d xs)
+pub comment-beside : (d b : ℕ) → (d ≡ 0 → b < 128) → (xs : List ℕ) → Beside b xs (comment d xs)
 unfolding comment
 comment-beside zero b low xs = inl (low refl)
 comment-beside (suc d) b low [] = inr (omega arith)
@@ -106,24 +100,24 @@ string-beside b xs e =
     let sign = delimiter-sign xs e in
     after-any n b xs (delimited (dollar-delimiter xs) (drop n xs)) (λ a. delimited-beside 36 (take n xs) (omega arith) a (drop n xs))
 
-dollar-beside : (b : ℕ) (xs : List ℕ) → Beside b xs (dollar-len xs)
+pub dollar-beside : (b : ℕ) (xs : List ℕ) → Beside b xs (dollar-len xs)
 dollar-beside b xs = cond-both (opens-dollar xs) _ _ (Beside b xs) (string-beside b xs) (λ _. inr (parameter-stopped xs))
 
 alone-ascii : (b : ℕ) → (eqb b 92 || (eqb b 59 || eqb b 58)) ≡ true → b < 128
 alone-ascii b h = grind (arith, tells)
 
 -- the first byte of a list, if an ASCII byte is asked for
-one-beside : (b : ℕ) (xs : List ℕ) → peek 0 xs < 128 → Beside b xs 1
+pub one-beside : (b : ℕ) (xs : List ℕ) → peek 0 xs < 128 → Beside b xs 1
 one-beside b xs low = inl low
 
-psql-beside : (b : ℕ) (xs : List ℕ) → Beside b xs (psql-len xs)
+pub psql-beside : (b : ℕ) (xs : List ℕ) → Beside b xs (psql-len xs)
 psql-beside b xs =
     cond-both (eqb (peek 0 xs) 92 || (eqb (peek 0 xs) 59 || eqb (peek 0 xs) 58)) _ _ (Beside b xs) (λ h. one-beside b xs (alone-ascii (peek 0 xs) h)) (λ _. inr (command-stopped xs))
 
 blank-ascii : (b : ℕ) → whitespace b ≡ true → b < 128
 blank-ascii b h = grind (arith, tells)
 
-blanks-beside : (b : ℕ) → b < 128 → (xs : List ℕ) → Beside b xs (run whitespace xs)
+pub blanks-beside : (b : ℕ) → b < 128 → (xs : List ℕ) → Beside b xs (run whitespace xs)
 unfolding run
 blanks-beside b low [] = inl low
 blanks-beside b low (x ∷ xs) =

@@ -3,7 +3,7 @@ use Prim.Native.Nat.{ℕ, _+_, _<_, _≤_}
 use Rattle.lexer.proofs.Decided.{Decided, both-counted, chosen, first-of, in-turn}
 use Rattle.lexer.proofs.DecidedParts.{delimited-closed-decided, delimited-decided, identifier-decided, run-decided}
 use Rattle.lexer.specs.Class.{decimal, ident-cont, ident-start, tag-cont}
-use Rattle.lexer.specs.Cursor.{identifier, leads, peek, run}
+use Rattle.lexer.specs.Cursor.{identifier, peek, run}
 use Rattle.lexer.specs.Dollar.{delimited, delimited-closed, dollar-closed, dollar-kind, dollar-len, dollar-opener, dollar-quoted, opens-dollar, parameter}
 use Rattle.lexer.specs.declared.token.LiteralKind.the-variants.{DollarQuotedString}
 use Rattle.lexer.specs.declared.token.TokenKind.the-variants.{Literal, PositionalParam}
@@ -14,7 +14,7 @@ use lib.ListN.{drop, length}
 use mathlib.Core.Bool.{Bool, true, false, cond, not, _&&_, _||_}
 use mathlib.Core.List.{List, [], _∷_, _++_}
 use mathlib.Core.Logic.{inl, inr}
-use mathlib.Core.Path.{_≡_, refl, ap, sym, _∙_}
+use mathlib.Core.Path.{_≡_, ap, sym, _∙_}
 use native.Mathlib.Omega.{arith}
 
 -- a wider class has the longer run

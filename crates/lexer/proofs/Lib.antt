@@ -1,4 +1,5 @@
 mod Beside
+mod Between
 mod Comments
 mod Cuts
 mod Decided

@@ -1,6 +1,6 @@
 -- What stops a word, a number, a parameter or the arguments of a psql command is an ASCII byte, or the end.
 use Prim.Native.Nat.{ℕ, _+_, _<_, _≤_}
-use Rattle.lexer.specs.Class.{all-but, backslash, command-letter, decimal, hexadecimal, ident-cont, ident-start, line-end, whitespace}
+use Rattle.lexer.specs.Class.{all-but, backslash, command-letter, decimal, hexadecimal, ident-cont, ident-start, line-end}
 use Rattle.lexer.specs.Cursor.{digits, identifier, peek, run}
 use Rattle.lexer.specs.Dollar.{parameter}
 use Rattle.lexer.specs.Number.{after-digits-len, base-of, based-len, decimal-len, exponent, exponent-mark, fraction, fractional-len, has-point, in-base-len, number-len, numeric-len}
@@ -12,14 +12,14 @@ use Rattle.lexer.specs.declared.psql_arg.ArgState.{ArgState}
 use Rattle.lexer.specs.declared.token.Base.the-variants.{Binary, Octal, Decimal, Hexadecimal}
 use Rattle.lexer.specs.declared.token.Base.{Base}
 use Rattle.std.proofs.shelf.Lists.{getD-drop}
-use Rattle.std.proofs.shelf.Tests.{and-parts, both-ways, cases-bool, cases-lt, cond-both, eqb-true, or-cases}
+use Rattle.std.proofs.shelf.Tests.{and-parts, both-ways, cases-lt, cond-both, eqb-true, or-cases}
 use Rattle.std.proofs.shelf.Ways.{tells}
 use lib.Dec.{eqb}
 use lib.ListN.{drop, getD}
-use mathlib.Core.Bool.{Bool, true, false, cond, _&&_, _||_}
+use mathlib.Core.Bool.{Bool, true, false, _&&_, _||_}
 use mathlib.Core.List.{List, [], _∷_}
 use mathlib.Core.Logic.{inl, inr}
-use mathlib.Core.Path.{_≡_, refl, ap, subst, sym, _∙_}
+use mathlib.Core.Path.{_≡_}
 use native.Mathlib.Omega.{arith}
 
 -- the byte at the place where it ends is ASCII; past the end that is 0
