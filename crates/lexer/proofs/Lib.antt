@@ -1,6 +1,14 @@
+mod Beside
+mod Between
 mod Comments
 pub mod Cuts
+mod Decided
+mod DecidedCommands
+mod DecidedDollars
+mod DecidedNumbers
+mod DecidedParts
 mod Dollars
+mod Local
 mod Moves
 mod Numbers
 mod PsqlArgs
@@ -11,5 +19,6 @@ pub mod Readings
 mod Rest
 mod Runs
 mod Starts
+mod Stopped
 mod Table
 mod Within

@@ -9,5 +9,6 @@ pub mod Number
 pub mod Psql
 pub mod PsqlArg
 pub mod Quoted
+pub mod ReachLaws
 pub mod Start
 pub mod Token
