@@ -1,11 +1,14 @@
+mod Bodies
 mod Comments
 mod Cuts
 mod Dollars
 mod Moves
 mod Numbers
+mod Openers
 mod PsqlArgs
 mod PsqlLens
 mod PsqlWords
+mod QuoteLaws
 mod Quotes
 mod Rest
 mod Runs
