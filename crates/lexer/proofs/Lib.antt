@@ -1,6 +1,7 @@
 mod Bodies
 mod Comments
 mod Cuts
+mod Delimiters
 mod Dollars
 mod Moves
 mod Numbers

@@ -63,3 +63,32 @@ abbrev pub QuotedRuns : Type 0
 QuotedRuns =
     (bs : List ℕ) (place : ℕ) (t : Token) (opener : List ℕ) (quote : ℕ) (escapes : Bool) → token-at bs place ≡ Some t → Quoting (t .kind) opener quote escapes false
     → ((b r : List ℕ) → Closes quote escapes (drop (place + length opener) bs) b r → ⊥) × (place + t .len ≡ length bs)
+
+-- each byte may go on with a tag
+abbrev pub TagRest : List ℕ → Type 0
+TagRest [] = Unit {0}
+TagRest (x ∷ xs) = (tag-cont x ≡ true) × TagRest xs
+
+-- a tag is empty, or an identifier without `$`
+abbrev pub Tag : List ℕ → Type 0
+Tag [] = Unit {0}
+Tag (x ∷ xs) = (ident-start x ≡ true) × TagRest xs
+
+-- a tag's delimiter: the tag between two `$`
+abbrev pub delimiter : List ℕ → List ℕ
+delimiter tag = 36 ∷ (tag ++ (36 ∷ []))
+
+-- a terminated dollar-quoted string is a delimiter, a body and the delimiter again: the first one after the opening one
+abbrev pub DollarCloses : Type 0
+DollarCloses =
+    (bs : List ℕ) (place : ℕ) (t : Token) → token-at bs place ≡ Some t → t .kind ≡ Literal (DollarQuotedString true)
+    → (tag : List ℕ) × (body : List ℕ) × (rest : List ℕ) × Tag tag × (drop place bs ≡ delimiter tag ++ (body ++ (delimiter tag ++ rest)))
+    × (t .len ≡ length (delimiter tag) + length body + length (delimiter tag))
+    × ((front back : List ℕ) → body ++ (delimiter tag ++ rest) ≡ front ++ (delimiter tag ++ back) → length body ≤ length front)
+
+-- one that is not terminated has no second delimiter, and runs to the end of the text
+abbrev pub DollarRuns : Type 0
+DollarRuns =
+    (bs : List ℕ) (place : ℕ) (t : Token) → token-at bs place ≡ Some t → t .kind ≡ Literal (DollarQuotedString false)
+    → (tag : List ℕ) × (after : List ℕ) × Tag tag × (drop place bs ≡ delimiter tag ++ after)
+    × ((front back : List ℕ) → after ≡ front ++ (delimiter tag ++ back) → ⊥) × (place + t .len ≡ length bs)
