@@ -11,7 +11,7 @@ use Rattle.std.proofs.shelf.Lists.{length-append, length-drop, length-take-le, 
 use Rattle.std.proofs.shelf.Tests.{and-from, and-parts, cases-bool, or-cases}
 use borrow.Author.Tests.{clash, eq-eqb, eqb-true}
 use lib.Dec.{eqb}
-use lib.ListN.{drop, getD, length, take}
+use lib.ListN.{drop, length, take}
 use mathlib.Core.Bool.{true, false, _&&_}
 use mathlib.Core.List.{List, [], _∷_, _++_}
 use mathlib.Core.Logic.{inl, inr}

@@ -3,6 +3,7 @@ mod Comments
 mod Cuts
 mod Delimiters
 mod Dollars
+mod Found
 mod Moves
 mod Numbers
 mod Openers

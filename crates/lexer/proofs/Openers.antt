@@ -5,9 +5,9 @@ use Rattle.lexer.specs.Class.{decimal, ident-start, whitespace}
 use Rattle.lexer.specs.Cursor.{digits, peek, run}
 use Rattle.lexer.specs.Cut.{mark}
 use Rattle.lexer.specs.Dollar.{dollar-closed, dollar-quoted, opens-dollar, parameter}
-use Rattle.lexer.specs.Lex.{kind-of, lex, marked, rest-len, start-with, token-at, token-from}
+use Rattle.lexer.specs.Lex.{kind-of, lex, marked, rest-len, token-at, token-from}
 use Rattle.lexer.specs.Number.{based, decimal-number, either-case, exponent-mark, fractional, has-point, in-base, base-of, number, numeric}
-use Rattle.lexer.specs.Psql.{command, psql-kind}
+use Rattle.lexer.specs.Psql.{psql-kind}
 use Rattle.lexer.specs.QuoteLaws.{Quoting, bit-string, byte-string, escape-string, lower, name, national-string, string, unicode-name, unicode-string}
 use Rattle.lexer.specs.Quoted.{quoted, quoted-closed}
 use Rattle.lexer.specs.Start.{plain-start, quoted-start, start-of, symbol, unicode-start}
@@ -22,9 +22,9 @@ use Rattle.lexer.specs.declared.token.Token.{Token}
 use Rattle.lexer.specs.declared.token.TokenKind.the-variants.{Unknown, Literal, Whitespace, Ident, PsqlCommand, Semi, Eof, Slash, LineComment, BlockComment, Minus, Colon, Dot, DotDot, Eq, Gt, And, Lt, Bang, Plus, Tilde, Pound, Question, Or, Percent, Caret, Star, Backtick, At, CloseBracket, OpenBracket, CloseCurly, OpenCurly, CloseParen, OpenParen, Comma, PositionalParam, QuotedIdent}
 use Rattle.lexer.specs.declared.token.TokenKind.{TokenKind}
 use Rattle.std.proofs.shelf.Lists.{drop-more}
-use Rattle.std.proofs.shelf.Tests.{and-from, and-parts, cases-bool, cond-both, or-cases}
+use Rattle.std.proofs.shelf.Tests.{and-from, and-parts, cases-bool, cond-both}
 use Rattle.std.proofs.shelf.Ways.{tells}
-use Rattle.std.specs.declared.option.Option.the-variants.{Some, None}
+use Rattle.std.specs.declared.option.Option.the-variants.{Some}
 use borrow.Author.Tests.{clash, eqb-true, ltb-true}
 use lib.Chars.{codes}
 use lib.Dec.{eqb, ltb}

@@ -2,10 +2,11 @@
 use Prim.Native.Nat.{ℕ, _+_, _≤_}
 use Rattle.lexer.proofs.Bodies.{closed-splits, closes-closed, closes-once, open-runs}
 use Rattle.lexer.proofs.Delimiters.{delimited-runs, delimited-splits, delimiter-is, opener-length, opener-split, tag-of, tag-stands}
+use Rattle.lexer.proofs.Found.{dollar-found, quoted-found}
 use Rattle.lexer.proofs.Openers.{DollarFront, Front, QuotedFront, manner, quoting-manner, token-front}
 use Rattle.lexer.specs.Dollar.{delimited, delimited-closed, dollar-opener}
 use Rattle.lexer.specs.Lex.{token-at}
-use Rattle.lexer.specs.QuoteLaws.{Closes, DollarCloses, DollarRuns, QuotedCloses, QuotedOpens, QuotedRuns, Quoting, Tag, delimiter, lower}
+use Rattle.lexer.specs.QuoteLaws.{DollarCloses, DollarRuns, QuoteLaws, QuotedCloses, QuotedOpens, QuotedRuns, Quoting, Tag, delimiter}
 use Rattle.lexer.specs.Quoted.{quoted, quoted-closed}
 use Rattle.lexer.specs.declared.token.LiteralKind.the-variants.{DollarQuotedString}
 use Rattle.lexer.specs.declared.token.Token.{Token}
@@ -13,10 +14,10 @@ use Rattle.lexer.specs.declared.token.TokenKind.the-variants.{Literal}
 use Rattle.std.proofs.shelf.Lists.{drop-drop, length-append, length-drop, length-map, length-take}
 use Rattle.std.specs.declared.option.Option.the-variants.{Some}
 use borrow.Author.Tests.{clash}
-use lib.ListN.{drop, length, take}
+use lib.ListN.{drop, length}
 use mathlib.Core.Bool.{Bool, true, false}
 use mathlib.Core.List.{List, _++_}
-use mathlib.Core.Path.{_≡_, refl, ap, subst, sym, _∙_}
+use mathlib.Core.Path.{_≡_, ap, subst, sym, _∙_}
 use native.Mathlib.Omega.{arith}
 
 module _ (bs : List ℕ) (place : ℕ) (t : Token) (opener : List ℕ) (q : ℕ) (e c : Bool) (at : token-at bs place ≡ Some t) (kind : Quoting (t .kind) opener q e c) where
@@ -117,3 +118,15 @@ dollar-runs bs place t at kind =
     let whole = ap length (dollar-split bs place t false at kind) ∙ length-append (delimiter tag) xs in
     let left = length-drop place bs in
     (tag, xs, dollar-tag bs place t false at kind, dollar-split bs place t false at kind, none .1, omega arith)
+
+pub quote-laws : QuoteLaws
+quote-laws =
+    record {
+      quoted-opens = quoted-opens;
+      quoted-found = quoted-found;
+      quoted-closes = quoted-closes;
+      quoted-runs = quoted-runs;
+      dollar-found = dollar-found;
+      dollar-closes = dollar-closes;
+      dollar-runs = dollar-runs;
+    }

@@ -51,6 +51,12 @@ QuotedOpens =
     (bs : List ℕ) (place : ℕ) (t : Token) (opener : List ℕ) (quote : ℕ) (escapes terminated : Bool) → token-at bs place ≡ Some t → Quoting (t .kind) opener quote escapes terminated
     → map lower (take (length opener) (drop place bs)) ≡ opener
 
+-- and where a text goes on with an opener, the token there is quoted so
+abbrev pub QuotedFound : Type 0
+QuotedFound =
+    (bs : List ℕ) (place : ℕ) (kind : TokenKind) (opener : List ℕ) (quote : ℕ) (escapes terminated : Bool) → Quoting kind opener quote escapes terminated
+    → map lower (take (length opener) (drop place bs)) ≡ opener → (t : Token) × (closed : Bool) × (token-at bs place ≡ Some t) × Quoting (t .kind) opener quote escapes closed
+
 -- a terminated one goes on with a body and the quote that closes it; there is no other way to read what follows its opener so
 abbrev pub QuotedCloses : Type 0
 QuotedCloses =
@@ -92,3 +98,19 @@ DollarRuns =
     (bs : List ℕ) (place : ℕ) (t : Token) → token-at bs place ≡ Some t → t .kind ≡ Literal (DollarQuotedString false)
     → (tag : List ℕ) × (after : List ℕ) × Tag tag × (drop place bs ≡ delimiter tag ++ after)
     × ((front back : List ℕ) → after ≡ front ++ (delimiter tag ++ back) → ⊥) × (place + t .len ≡ length bs)
+
+-- where a text goes on with a delimiter, a dollar-quoted string begins
+abbrev pub DollarFound : Type 0
+DollarFound =
+    (bs : List ℕ) (place : ℕ) (tag after : List ℕ) → Tag tag → drop place bs ≡ delimiter tag ++ after
+    → (t : Token) × (closed : Bool) × (token-at bs place ≡ Some t) × (t .kind ≡ Literal (DollarQuotedString closed))
+
+-- all of these
+pub record QuoteLaws : Type 0 where
+  pub quoted-opens : QuotedOpens
+  pub quoted-found : QuotedFound
+  pub quoted-closes : QuotedCloses
+  pub quoted-runs : QuotedRuns
+  pub dollar-found : DollarFound
+  pub dollar-closes : DollarCloses
+  pub dollar-runs : DollarRuns
