@@ -1,5 +1,6 @@
 mod Beside
 mod Between
+mod Bodies
 mod Comments
 pub mod Cuts
 mod Decided
@@ -7,13 +8,17 @@ mod DecidedCommands
 mod DecidedDollars
 mod DecidedNumbers
 mod DecidedParts
+mod Delimiters
 mod Dollars
+mod Found
 mod Local
 mod Moves
 mod Numbers
+mod Openers
 mod PsqlArgs
 mod PsqlLens
 mod PsqlWords
+mod QuoteLaws
 mod Quotes
 pub mod Readings
 mod Rest

@@ -8,6 +8,7 @@ pub mod Lex
 pub mod Number
 pub mod Psql
 pub mod PsqlArg
+pub mod QuoteLaws
 pub mod Quoted
 pub mod ReachLaws
 pub mod Start
