@@ -4,7 +4,7 @@ use Rattle.lexer.proofs.Rest.{within}
 use Rattle.lexer.proofs.Within.{lex-within}
 use Rattle.lexer.specs.Cursor.{peek}
 use Rattle.lexer.specs.Cut.{cut, cut-after, lengths, mark}
-use Rattle.lexer.specs.Laws.{AddsUp, CutLaws, NoneEmpty, ReadsCut, SameTail, border}
+use Rattle.lexer.specs.Laws.{AddsUp, NoneEmpty, ReadsCut, SameTail, border}
 use Rattle.lexer.specs.Lex.{lex, marked, token-at, token-from}
 use Rattle.lexer.specs.declared.token.Token.{Token}
 use Rattle.std.proofs.shelf.Lists.{drop-drop, length-drop}
@@ -141,6 +141,3 @@ reads-cut (x ∷ xs) (suc m) =
           let beyond = ltb-false p (length bs) e in
           here ∙ ap (λ b. cond b (Some (token-from (drop p bs))) None) (e ∙ sym (le-ltb 0 (length (drop p bs)) (omega arith))) ∙ sym next
     ]
-
-pub cut-laws : CutLaws
-cut-laws = record { reads-cut = reads-cut; adds-up = adds-up; same-tail = same-tail }

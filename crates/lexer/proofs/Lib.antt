@@ -1,3 +1,4 @@
+mod AllLaws
 mod Beside
 mod Between
 mod Bodies

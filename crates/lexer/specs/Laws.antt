@@ -29,9 +29,3 @@ AddsUp = (xs : List ℕ) → (lengths (cut xs) ≡ length xs) × NoneEmpty (cut 
 abbrev pub SameTail : Type 0
 SameTail =
     (xs ys : List ℕ) (m n : ℕ) → 0 < m → m ≤ length (cut xs) → 0 < n → n ≤ length (cut ys) → drop (border xs m) xs ≡ drop (border ys n) ys → drop m (cut xs) ≡ drop n (cut ys)
-
--- all of these
-pub record CutLaws : Type 0 where
-  pub reads-cut : ReadsCut
-  pub adds-up : AddsUp
-  pub same-tail : SameTail

@@ -2,7 +2,7 @@
 
 ghost use Prim.Native.Nat.{_+_, _<_, _≤_};
 ghost use Rattle.lexer.specs.Cursor.{Moved, rest};
-ghost use Rattle.lexer.specs.Laws.{CutLaws};
+ghost use Rattle.lexer.specs.AllLaws.{AllLaws};
 ghost use Rattle.lexer.specs.Lex.{kind-of, marked, rest-len, start-with, token-at, token-from};
 ghost use Rattle.lexer.specs.Token.{is-eof};
 ghost use Rattle.std.specs.Options.{Cases};
@@ -107,7 +107,7 @@ impl<'a, T: Text> Cursor<'a, T> {
 pub fn token_at<T: Text>(text: &T, place: u32) -> Option<Token>
     ensures value { λ r. ⌜ r ≡ token-at (T·Text .bytes (now (text .entry))) place ⌝ }
     ensures inside { λ r. ⌜ Cases r (length (T·Text .bytes (now (text .entry))) ≤ place) (λ t. (0 < t .len) × (place + t .len ≤ length (T·Text .bytes (now (text .entry))))) ⌝ }
-    ensures laws { λ _. ⌜ CutLaws ⌝ }
+    ensures laws { λ _. ⌜ AllLaws ⌝ }
     ensures real { λ r. ⌜ Cases r (Unit {0}) (λ t. is-eof (t .kind) ≡ false) ⌝ }
 {
     if place == 0 && starts_with_mark(text) {
