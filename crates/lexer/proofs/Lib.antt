@@ -1,7 +1,11 @@
+mod Begins
 mod Comments
 mod Cuts
 mod Dollars
+mod Forms
+mod Marks
 mod Moves
+mod NumberSays
 mod Numbers
 mod PsqlArgs
 mod PsqlLens
@@ -9,6 +13,9 @@ mod PsqlWords
 mod Quotes
 mod Rest
 mod Runs
+mod Says
+mod Spans
 mod Starts
 mod Table
+mod TokenLaws
 mod Within

@@ -11,3 +11,4 @@ pub mod PsqlArg
 pub mod Quoted
 pub mod Start
 pub mod Token
+pub mod TokenLaws
