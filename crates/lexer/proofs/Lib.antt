@@ -1,4 +1,5 @@
 mod AllLaws
+mod Begins
 mod Beside
 mod Between
 mod Bodies
@@ -11,9 +12,12 @@ mod DecidedNumbers
 mod DecidedParts
 mod Delimiters
 mod Dollars
+mod Forms
 mod Found
 mod Local
+mod Marks
 mod Moves
+mod NumberSays
 mod Numbers
 mod Openers
 mod PsqlArgs
@@ -24,7 +28,10 @@ mod Quotes
 pub mod Readings
 mod Rest
 mod Runs
+mod Says
+mod Spans
 mod Starts
 mod Stopped
 mod Table
+mod TokenLaws
 mod Within

@@ -14,3 +14,4 @@ pub mod Quoted
 pub mod ReachLaws
 pub mod Start
 pub mod Token
+pub mod TokenLaws
