@@ -3,6 +3,7 @@ use Rattle.lexer.proofs.Between.{between-characters}
 use Rattle.lexer.proofs.Cuts.{adds-up, reads-cut, same-tail}
 use Rattle.lexer.proofs.Local.{local, same-front}
 use Rattle.lexer.proofs.QuoteLaws.{quote-laws}
+use Rattle.lexer.proofs.TokenLaws.{token-laws}
 use Rattle.lexer.specs.AllLaws.{AllLaws}
 
 pub all-laws : AllLaws
@@ -15,4 +16,5 @@ all-laws =
       local = local;
       same-front = same-front;
       quotes = quote-laws;
+      tokens = token-laws;
     }

@@ -2,6 +2,7 @@
 use Rattle.lexer.specs.Laws.{AddsUp, ReadsCut, SameTail}
 use Rattle.lexer.specs.QuoteLaws.{QuoteLaws}
 use Rattle.lexer.specs.ReachLaws.{BetweenCharacters, Local, SameFront}
+use Rattle.lexer.specs.TokenLaws.{TokenLaws}
 
 pub record AllLaws : Type 0 where
   pub reads-cut : ReadsCut
@@ -11,3 +12,4 @@ pub record AllLaws : Type 0 where
   pub local : Local
   pub same-front : SameFront
   pub quotes : QuoteLaws
+  pub tokens : TokenLaws
