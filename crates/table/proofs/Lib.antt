@@ -1,1 +1,2 @@
+mod Readings
 mod SameTokens
