@@ -1,2 +1,3 @@
+mod Partings
 mod Readings
 mod SameTokens

@@ -1,3 +1,4 @@
 pub mod Faults
 pub mod Filled
+pub mod Parting
 pub mod Same

@@ -1,9 +1,11 @@
 //! Tokens in tables: the cut of a text written into one, and a list of tokens held against the cut.
 
+mod checker;
 mod fault;
 mod fill;
 mod same;
 
+pub use checker::check_tokens;
 pub use fault::TableFault;
 pub use fault::TableFromText;
 pub use fill::fill_table;
