@@ -4,6 +4,8 @@ mod checker;
 mod fault;
 mod fill;
 mod same;
+#[cfg(test)]
+mod tests;
 
 pub use checker::check_tokens;
 pub use fault::TableFault;
