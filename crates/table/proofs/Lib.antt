@@ -1,0 +1,3 @@
+mod Partings
+mod Readings
+mod SameTokens

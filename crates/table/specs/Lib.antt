@@ -1,0 +1,4 @@
+pub mod Faults
+pub mod Filled
+pub mod Parting
+pub mod Same
