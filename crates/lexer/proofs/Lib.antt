@@ -11,6 +11,7 @@ mod PsqlArgs
 mod PsqlLens
 mod PsqlWords
 mod Quotes
+mod Recognised
 mod Rest
 mod Runs
 mod Says
