@@ -5,6 +5,7 @@ mod Dollars
 mod Forms
 mod Marks
 mod Moves
+mod NumberBytes
 mod NumberSays
 mod Numbers
 mod PsqlArgs
@@ -17,6 +18,7 @@ mod Runs
 mod Says
 mod Spans
 mod Starts
+mod Stopped
 mod Table
 mod TokenLaws
 mod Within

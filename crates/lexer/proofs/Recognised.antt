@@ -1,272 +1,34 @@
 -- A number's form, where what follows does not go on with it, is read as that number.
-use Prim.Native.Nat.{ℕ, suc, _+_, _-_, _≤_, _<_}
-use Rattle.lexer.proofs.Forms.{digits-end, digits-more, no-digits}
-use Rattle.lexer.proofs.Numbers.{no-exponent, not-empty, not-empty-digits, some-exponent, tail-plain, tail-signed, with-exponent, with-neither, with-point}
-use Rattle.lexer.specs.Class.{decimal, hexadecimal, ident-start}
-use Rattle.lexer.specs.Cursor.{digit-met, digits, identifier, leads, peek}
+use Prim.Native.Nat.{ℕ, suc, _+_, _<_}
+use Rattle.lexer.proofs.Forms.{digits-more}
+use Rattle.lexer.proofs.NumberBytes.{by-digit, digit-no-point, digit-start, point-start, no-letter, no-hex, by-letter, by-mark}
+use Rattle.lexer.proofs.Numbers.{with-exponent, with-neither, with-point}
+use Rattle.lexer.proofs.Stopped.{Past, Unlettered, no-group, group-head, group-rest, group-back, all-back, stop-past, no-junk, exponent-back, tail-back, numeric-back, numeric-len-back, bare-back, full-back}
+use Rattle.lexer.specs.Class.{decimal, hexadecimal}
+use Rattle.lexer.specs.Cursor.{digit-met, digits, identifier, peek}
 use Rattle.lexer.specs.Lex.{kind-of, lex, marked, rest-len, token-at, token-from}
-use Rattle.lexer.specs.Number.{after-digits, after-digits-len, base-of, based, based-len, decimal-len, decimal-number, either-case, empty-exponent, exponent, exponent-digits, exponent-mark, fraction, fractional, fractional-len, has-point, in-base, in-base-len, number, number-len, numeric, numeric-len, sign}
-use Rattle.lexer.specs.Start.{plain-start, start-of}
+use Rattle.lexer.specs.Number.{after-digits, after-digits-len, base-of, based, based-len, decimal-len, decimal-number, either-case, exponent-mark, fractional, fractional-len, has-point, in-base, in-base-len, number, number-len}
+use Rattle.lexer.specs.TokenLaws.{Based, Exponent, Fractional, FractionalRead, Stops, Whole, WholeRead, grouped}
 use Rattle.lexer.specs.TokenLaws.Based.{direct, underscored}
 use Rattle.lexer.specs.TokenLaws.Exponent.{signed, unsigned}
 use Rattle.lexer.specs.TokenLaws.Fractional.{no-point, point-first, point-last, point-within}
-use Rattle.lexer.specs.TokenLaws.{Based, Exponent, ExponentOrNone, Fractional, FractionalRead, Stops, Whole, WholeRead, grouped}
-use Rattle.lexer.specs.declared.start.Start.the-variants.{Digit, Point}
-use Rattle.lexer.specs.declared.token.Base.the-variants.{Binary, Octal, Decimal, Hexadecimal}
 use Rattle.lexer.specs.declared.token.Base.{Base}
-use Rattle.lexer.specs.declared.token.LiteralKind.the-variants.{Int, Numeric}
+use Rattle.lexer.specs.declared.token.Base.the-variants.{Binary, Octal, Decimal, Hexadecimal}
 use Rattle.lexer.specs.declared.token.LiteralKind.{LiteralKind}
+use Rattle.lexer.specs.declared.token.LiteralKind.the-variants.{Int, Numeric}
 use Rattle.lexer.specs.declared.token.Token.{Token}
 use Rattle.lexer.specs.declared.token.TokenKind.the-variants.{Literal}
 use Rattle.std.proofs.shelf.Lists.{append-assoc, drop-at, length-append, length-drop}
-use Rattle.std.proofs.shelf.Tests.{and-parts, cases-bool, cases-eq, leb-true, or-cases, or-left, or-right}
-use Rattle.std.proofs.shelf.Ways.{tells}
+use Rattle.std.proofs.shelf.Tests.{and-parts, cases-bool, or-right}
 use Rattle.std.specs.declared.option.Option.the-variants.{Some, None}
 use borrow.Author.Tests.{clash, eqb-true, lt-ltb}
-use lib.Dec.{eqb, leb}
+use lib.Dec.{eqb}
 use lib.ListN.{drop, length}
-use mathlib.Core.Bool.{Bool, true, false, cond, _&&_, _||_}
+use mathlib.Core.Bool.{Bool, true, false, _&&_}
 use mathlib.Core.List.{List, [], _∷_, _++_}
-use mathlib.Core.Logic.{_⊎_, inl, inr}
+use mathlib.Core.Logic.{inl, inr}
 use mathlib.Core.Path.{_≡_, refl, ap, sym, subst, _∙_}
 use native.Mathlib.Omega.{arith}
-
--- a decimal digit is one of ten
-by-digit : (P : ℕ → Type 0) → P 48 × P 49 × P 50 × P 51 × P 52 × P 53 × P 54 × P 55 × P 56 × P 57 → (b : ℕ) → decimal b ≡ true → P b
-by-digit P each b d =
-    let parts = and-parts (leb 48 b) (leb b 57) d in
-    let low = leb-true 48 b (parts .0) in
-    let high = leb-true b 57 (parts .1) in
-    elim (cases-eq b 48) [
-      | inl e ↦ subst P (sym e) (each .0)
-      | inr n48 ↦
-          elim (cases-eq b 49) [
-            | inl e ↦ subst P (sym e) (each .1)
-            | inr n49 ↦
-                elim (cases-eq b 50) [
-                  | inl e ↦ subst P (sym e) (each .2)
-                  | inr n50 ↦
-                      elim (cases-eq b 51) [
-                        | inl e ↦ subst P (sym e) (each .3)
-                        | inr n51 ↦
-                            elim (cases-eq b 52) [
-                              | inl e ↦ subst P (sym e) (each .4)
-                              | inr n52 ↦
-                                  elim (cases-eq b 53) [
-                                    | inl e ↦ subst P (sym e) (each .5)
-                                    | inr n53 ↦
-                                        elim (cases-eq b 54) [
-                                          | inl e ↦ subst P (sym e) (each .6)
-                                          | inr n54 ↦
-                                              elim (cases-eq b 55) [
-                                                | inl e ↦ subst P (sym e) (each .7)
-                                                | inr n55 ↦
-                                                    elim (cases-eq b 56) [
-                                                      | inl e ↦ subst P (sym e) (each .8)
-                                                      | inr n56 ↦
-                                                          elim (cases-eq b 57) [ inl e ↦ subst P (sym e) (each .9) | inr n57 ↦ absurd (omega arith) ]
-                                                    ]
-                                              ]
-                                        ]
-                                  ]
-                            ]
-                      ]
-                ]
-          ]
-    ]
-
-module _ (b : ℕ) (d : decimal b ≡ true) where
-  digit-unsigned : sign b ≡ false
-  digit-unsigned = by-digit (λ b. sign b ≡ false) (refl, refl, refl, refl, refl, refl, refl, refl, refl, refl) b d
-
-  digit-no-point : eqb b 46 ≡ false
-  digit-no-point = by-digit (λ b. eqb b 46 ≡ false) (refl, refl, refl, refl, refl, refl, refl, refl, refl, refl) b d
-
-  same-digit : (c : Bool) → cond c Digit Digit ≡ Digit
-  same-digit true = refl
-  same-digit false = refl
-
-  digit-start : (next after : ℕ) → start-of b next after ≡ Digit
-  unfolding plain-start
-  digit-start next after =
-      let one = same-digit (eqb next 39) in
-      by-digit (λ b. start-of b next after ≡ Digit) (one, one, one, one, one, one, one, one, one, one) b d
-
-  point-start : (after : ℕ) → start-of 46 b after ≡ Point
-  point-start after = simp (digit-no-point, d)
-
--- a byte that starts no name
-module _ (b : ℕ) (i : ident-start b ≡ false) where
-  other : (l : ℕ) → ident-start l ≡ true → eqb b l ≡ false
-  other l s =
-      elim (cases-bool (eqb b l)) [
-        | inl e ↦ absurd (clash (sym i ∙ ap ident-start (eqb-true b l e) ∙ s))
-        | inr e ↦ e
-      ]
-
-  no-letter : (l : ℕ) → 32 ≤ l → ident-start l ≡ true → ident-start (l - 32) ≡ true → either-case l b ≡ false
-  no-letter l h s u =
-      elim (cases-bool (eqb (b + 32) l)) [
-        | inl e ↦ let up = eqb-true (b + 32) l e in let is : b ≡ l - 32 = omega arith in absurd (clash (sym i ∙ ap ident-start is ∙ u))
-        | inr e ↦ simp (other l s, e)
-      ]
-
-  no-hex : decimal b ≡ false → hexadecimal b ≡ false
-  no-hex d = grind (arith, tells)
-
--- digits, read back
-module _ (digit : ℕ → Bool) where
-  stop-digits : (next : List ℕ) → digit (peek 0 next) ≡ false → eqb (peek 0 next) 95 ≡ false → digits digit next ≡ 0
-  stop-digits [] d u = no-digits digit
-  stop-digits (x ∷ xs) d u = digits-end digit x xs (simp (d, u))
-
-  no-group : grouped digit [] ≡ true → ⊥
-  unfolding grouped
-  no-group g = clash g
-
-  group-head : (x : ℕ) (xs : List ℕ) → grouped digit (x ∷ xs) ≡ true → digit x ≡ true
-  unfolding grouped
-  group-head x [] g = g
-  group-head x (y ∷ ys) g = and-parts (digit x) (grouped digit (y ∷ ys) || (eqb y 95 && grouped digit ys)) g .0
-
-  group-rest : (x y : ℕ) (ys : List ℕ) → grouped digit (x ∷ y ∷ ys) ≡ true → (grouped digit (y ∷ ys) ≡ true) ⊎ ((eqb y 95 && grouped digit ys) ≡ true)
-  unfolding grouped
-  group-rest x y ys g = or-cases (grouped digit (y ∷ ys)) (eqb y 95 && grouped digit ys) (and-parts (digit x) (grouped digit (y ∷ ys) || (eqb y 95 && grouped digit ys)) g .1)
-
-  module _ (next : List ℕ) (d : digit (peek 0 next) ≡ false) (u : eqb (peek 0 next) 95 ≡ false) where
-    group-back : (x : ℕ) (ys : List ℕ) → grouped digit (x ∷ ys) ≡ true → digits digit (ys ++ next) ≡ length ys
-    group-back x [] g = stop-digits next d u
-    group-back x (y ∷ []) g =
-        elim (group-rest x y [] g) [
-          | inl more ↦ digits-more digit y next (or-left (digit y) (eqb y 95 && leads digit next) (group-head y [] more)) ∙ ap suc (stop-digits next d u)
-          | inr more ↦ absurd (no-group (and-parts (eqb y 95) (grouped digit []) more .1))
-        ]
-    group-back x (y ∷ z ∷ zs) g =
-        elim (group-rest x y (z ∷ zs) g) [
-          | inl more ↦ digits-more digit y (z ∷ zs ++ next) (or-left (digit y) (eqb y 95 && digit z) (group-head y (z ∷ zs) more)) ∙ ap suc (group-back y (z ∷ zs) more)
-          | inr more ↦
-              let parts = and-parts (eqb y 95) (grouped digit (z ∷ zs)) more in
-              let h = group-head z zs (parts .1) in
-              digits-more digit y (z ∷ zs ++ next) (or-right (digit y) (eqb y 95 && digit z) (simp (parts .0, h)))
-              ∙ ap suc (digits-more digit z (zs ++ next) (or-left (digit z) (eqb z 95 && leads digit (zs ++ next)) h) ∙ ap suc (group-back z zs (parts .1)))
-        ]
-
-    -- a whole group
-    all-back : (ds : List ℕ) → grouped digit ds ≡ true → digits digit (ds ++ next) ≡ length ds
-    all-back [] g = absurd (no-group g)
-    all-back (x ∷ xs) g = digits-more digit x (xs ++ next) (or-left (digit x) (eqb x 95 && leads digit (xs ++ next)) (group-head x xs g)) ∙ ap suc (group-back x xs g)
-
--- bytes that are no letter of a prefix
-abbrev Unlettered : ℕ → Type 0
-Unlettered b = (either-case 98 b ≡ false) × (either-case 111 b ≡ false) × (either-case 120 b ≡ false)
-
-by-mark : (P : ℕ → Type 0) → P 101 → P 69 → (b : ℕ) → exponent-mark b ≡ true → P b
-by-mark P lower upper b m =
-    elim (or-cases (eqb b 101) (eqb (b + 32) 101) m) [
-      | inl e ↦ subst P (sym (eqb-true b 101 e)) lower
-      | inr e ↦ let up = eqb-true (b + 32) 101 e in let is : b ≡ 69 = omega arith in subst P (sym is) upper
-    ]
-
--- what the first byte after digits is not
-record Past (b : ℕ) : Type 0 where
-  pub no-digit : decimal b ≡ false
-  pub no-underscore : eqb b 95 ≡ false
-  pub unlettered : Unlettered b
-
-mark-past : (b : ℕ) → exponent-mark b ≡ true → Past b
-mark-past b m = by-mark Past record { no-digit = refl; no-underscore = refl; unlettered = (refl, refl, refl) } record { no-digit = refl; no-underscore = refl; unlettered = (refl, refl, refl) } b m
-
-stop-past : (next : List ℕ) → Stops next → Past (peek 0 next)
-stop-past next s =
-    let b = peek 0 next in
-    let i = s .1 in
-    record {
-      no-digit = s .0;
-      no-underscore = other b i 95 refl;
-      unlettered = (no-letter b i 98 (omega arith) refl refl, no-letter b i 111 (omega arith) refl refl, no-letter b i 120 (omega arith) refl refl);
-    }
-
-no-junk : (next : List ℕ) → ident-start (peek 0 next) ≡ false → identifier next ≡ 0
-no-junk [] i = refl
-no-junk (x ∷ xs) i = simp i
-
--- an exponent, read back
-module _ (next : List ℕ) (s : Stops next) where
-  record Tail (es : List ℕ) : Type 0 where
-    pub len : exponent (es ++ next) ≡ length es
-    pub full : (at : ℕ) → empty-exponent at (es ++ next) ≡ None
-    pub past : Past (peek 0 (es ++ next))
-    pub pointless : eqb (peek 0 next) 46 ≡ false → eqb (peek 0 (es ++ next)) 46 ≡ false
-
-  underscoreless : eqb (peek 0 next) 95 ≡ false
-  underscoreless = stop-past next s .no-underscore
-
-  unsigned-back : (e : ℕ) (ds : List ℕ) → exponent-mark e ≡ true → grouped decimal ds ≡ true → Tail (e ∷ ds)
-  unsigned-back e [] m g = absurd (no-group decimal g)
-  unsigned-back e (x ∷ xs) m g =
-      let ws = x ∷ xs ++ next in
-      let d = group-head decimal x xs g in
-      let u = digit-unsigned x d in
-      let has : exponent-digits ws ≡ true = simp (u, d) in
-      let tail = sym (tail-plain ws has u) ∙ all-back decimal next (s .0) underscoreless (x ∷ xs) g in
-      let whole = some-exponent (e ∷ ws) m in
-      record { len = omega arith; full = λ at. not-empty-digits (e ∷ ws) at m has; past = mark-past e m; pointless = λ _. by-mark (λ b. eqb b 46 ≡ false) refl refl e m }
-
-  signed-back : (e g : ℕ) (ds : List ℕ) → exponent-mark e ≡ true → sign g ≡ true → grouped decimal ds ≡ true → Tail (e ∷ g ∷ ds)
-  signed-back e b [] m u g = absurd (no-group decimal g)
-  signed-back e b (x ∷ xs) m u g =
-      let ws = b ∷ x ∷ xs ++ next in
-      let d = group-head decimal x xs g in
-      let has : exponent-digits ws ≡ true = simp (u, d) in
-      let back = all-back decimal next (s .0) underscoreless (x ∷ xs) g in
-      let tail = tail-signed ws has u in
-      let whole = some-exponent (e ∷ ws) m in
-      record { len = omega arith; full = λ at. not-empty-digits (e ∷ ws) at m has; past = mark-past e m; pointless = λ _. by-mark (λ b. eqb b 46 ≡ false) refl refl e m }
-
-  exponent-back : {es : List ℕ} → Exponent es → Tail es
-  exponent-back (unsigned e ds m g) = unsigned-back e ds m g
-  exponent-back (signed e b ds m u g) = signed-back e b ds m u g
-
-  no-exponent-back : Tail []
-  no-exponent-back =
-      let m = no-letter (peek 0 next) (s .1) 101 (omega arith) refl refl in
-      record { len = no-exponent next m; full = λ at. not-empty next at m; past = stop-past next s; pointless = λ p. p }
-
-  tail-back : (es : List ℕ) → ExponentOrNone es → Tail es
-  tail-back es (inl e) = exponent-back e
-  tail-back es (inr e) = subst Tail (sym e) no-exponent-back
-
-  module _ (es : List ℕ) (t : Tail es) where
-    numeric-back : (at : ℕ) → numeric at (es ++ next) ≡ Numeric None (at + length es)
-    unfolding numeric
-    numeric-back at = simp (t .full at, t .len)
-
-    numeric-len-back : numeric-len (es ++ next) ≡ length es
-    unfolding numeric-len
-    numeric-len-back =
-        let rest = ap (λ n. identifier (drop n (es ++ next))) (t .len) ∙ ap identifier (drop-at es next (length es) refl) ∙ no-junk next (s .1) in
-        let n = t .len in
-        omega arith
-
-    bare-back : (at : ℕ) → (fractional at (es ++ next) ≡ Numeric None (at + length es)) × (fractional-len (es ++ next) ≡ length es)
-    unfolding fractional fractional-len
-    bare-back at =
-        let d = t .past .no-digit in
-        let none : fraction (es ++ next) ≡ 0 = simp d in
-        let same : at + 0 + length es ≡ at + length es = omega arith in
-        (simp none (numeric-back (at + 0) ∙ ap (Numeric None) same), simp none (omega (arith, numeric-len-back)))
-
-    full-back : (at : ℕ) (fs : List ℕ) → grouped decimal fs ≡ true → (fractional at (fs ++ (es ++ next)) ≡ Numeric None (at + length fs + length es)) × (fractional-len (fs ++ (es ++ next)) ≡ length fs + length es)
-    unfolding fractional fractional-len
-    full-back at [] g = absurd (no-group decimal g)
-    full-back at (x ∷ xs) g =
-        let fs = x ∷ xs in
-        let ws = es ++ next in
-        let d = group-head decimal x xs g in
-        let n : fraction (fs ++ ws) ≡ length fs = simp d (all-back decimal ws (t .past .no-digit) (t .past .no-underscore) fs g) in
-        let rest = drop-at fs ws (length fs) refl in
-        let len = numeric-len-back in
-        (ap (λ m. numeric (at + m) (drop m (fs ++ ws))) n ∙ ap (numeric (at + length fs)) rest ∙ numeric-back (at + length fs), ap (λ m. m + numeric-len (drop m (fs ++ ws))) n ∙ ap (λ l. length fs + numeric-len l) rest ∙ ap (λ m. length fs + m) len)
 
 -- a number from its first digit on, by what follows its digits
 base-plain : (x b : ℕ) → Unlettered b → base-of x b ≡ Decimal
@@ -379,13 +141,6 @@ module _ (base : Base) (letter : ℕ) (digit : ℕ → Bool) (next : List ℕ) (
       let h = group-head digit x xs g in
       prefix-front mark (95 ∷ ds ++ next) (suc (length ds)) l
       (digits-more digit 95 (ds ++ next) (or-right (digit 95) (true && digit x) h) ∙ ap suc (all-back digit next d (stop-past next s .no-underscore) ds g)) (met-underscore digit x (xs ++ next) h) (drop-at ds next (length ds) refl)
-
-by-letter : (P : ℕ → Type 0) (l : ℕ) → 32 ≤ l → P l → P (l - 32) → (b : ℕ) → either-case l b ≡ true → P b
-by-letter P l h lower upper b m =
-    elim (or-cases (eqb b l) (eqb (b + 32) l) m) [
-      | inl e ↦ subst P (sym (eqb-true b l e)) lower
-      | inr e ↦ let up = eqb-true (b + 32) l e in let is : b ≡ l - 32 = omega arith in subst P (sym is) upper
-    ]
 
 in-binary : (mark : ℕ) (zs : List ℕ) → either-case 98 mark ≡ true → (number 48 1 (mark ∷ zs) ≡ based Binary decimal 2 zs) × (number-len 48 (mark ∷ zs) ≡ 1 + based-len decimal zs)
 unfolding number number-len
