@@ -2,7 +2,7 @@
 use Prim.Native.Nat.{ℕ, _+_}
 use Rattle.lexer.specs.Class.{decimal, ident-start, whitespace}
 use Rattle.lexer.specs.Number.{either-case}
-use Rattle.lexer.specs.Start.{plain-start, quoted-start, start-of, symbol, unicode-start}
+use Rattle.lexer.specs.Start.{plain-start, quoted-start, start-of, symbol}
 use Rattle.lexer.specs.declared.quoted.Prefix.the-variants.{Esc, Bit, Byte, National}
 use Rattle.lexer.specs.declared.start.Start.the-variants.{Blanks, Line, Block, Prefixed, UnicodeStr, UnicodeIdent, Word, Digit, Point, TwoDots, Dollar, Command, Quote, DoubleQuote, Symbol}
 use Rattle.lexer.specs.declared.start.Start.{Start}
@@ -13,7 +13,7 @@ use borrow.Author.Tests.{eqb-true}
 use lib.Dec.{eqb}
 use mathlib.Core.Bool.{Bool, true, cond, _&&_}
 use mathlib.Core.Logic.{inl, inr}
-use mathlib.Core.Path.{_≡_, refl, ap, sym, _∙_}
+use mathlib.Core.Path.{_≡_, refl, ap}
 use native.Mathlib.Omega.{arith}
 
 -- what holds of each kind of one character holds of the kind that a byte has

@@ -1,13 +1,12 @@
 -- The digits and exponents that are read are of the forms of numbers.
-use Prim.Native.Nat.{ℕ, zero, suc, _+_}
+use Prim.Native.Nat.{ℕ, suc}
 use Rattle.lexer.proofs.Numbers.{no-exponent, some-exponent, tail-plain, tail-signed}
 use Rattle.lexer.specs.Class.{decimal}
 use Rattle.lexer.specs.Cursor.{digit-met, digits, leads, peek}
-use Rattle.lexer.specs.Number.{empty-exponent, exponent, exponent-digits, exponent-mark, exponent-tail, sign}
+use Rattle.lexer.specs.Number.{empty-exponent, exponent, exponent-digits, exponent-mark, exponent-tail, sign, either-case}
 use Rattle.lexer.specs.TokenLaws.Based.{direct, underscored}
 use Rattle.lexer.specs.TokenLaws.Exponent.{signed, unsigned}
 use Rattle.lexer.specs.TokenLaws.{Based, Exponent, ExponentOrNone, grouped}
-use Rattle.lexer.specs.Number.{either-case}
 use Rattle.std.proofs.shelf.Tests.{and-from, and-parts, cases-bool, or-left, or-right}
 use Rattle.std.specs.declared.option.Option.the-variants.{Some, None}
 use borrow.Author.Tests.{clash, eqb-true}
@@ -21,11 +20,11 @@ use native.Mathlib.Omega.{arith}
 
 module _ (digit : ℕ → Bool) where
   -- one more byte of the digits
-  digits-more : (x : ℕ) (xs : List ℕ) → (digit x || (eqb x 95 && leads digit xs)) ≡ true → digits digit (x ∷ xs) ≡ suc (digits digit xs)
+  pub digits-more : (x : ℕ) (xs : List ℕ) → (digit x || (eqb x 95 && leads digit xs)) ≡ true → digits digit (x ∷ xs) ≡ suc (digits digit xs)
   unfolding digits
   digits-more x xs e = simp e (omega arith)
 
-  digits-end : (x : ℕ) (xs : List ℕ) → (digit x || (eqb x 95 && leads digit xs)) ≡ false → digits digit (x ∷ xs) ≡ 0
+  pub digits-end : (x : ℕ) (xs : List ℕ) → (digit x || (eqb x 95 && leads digit xs)) ≡ false → digits digit (x ∷ xs) ≡ 0
   unfolding digits
   digits-end x xs e = simp e
 
@@ -41,7 +40,7 @@ module _ (digit : ℕ → Bool) where
   unfolding grouped
   next-group x y xs d u g = and-from (digit x) _ d (or-right (grouped digit (y ∷ xs)) (eqb y 95 && grouped digit xs) (and-from (eqb y 95) (grouped digit xs) u g))
 
-  no-digits : digits digit [] ≡ 0
+  pub no-digits : digits digit [] ≡ 0
   unfolding digits
   no-digits = refl
 

@@ -17,6 +17,8 @@ mod Found
 mod Local
 mod Marks
 mod Moves
+mod NumberBytes
+mod NumberParts
 mod NumberSays
 mod Numbers
 mod Openers
@@ -26,6 +28,7 @@ mod PsqlWords
 mod QuoteLaws
 mod Quotes
 pub mod Readings
+mod Recognised
 mod Rest
 mod Runs
 mod Says

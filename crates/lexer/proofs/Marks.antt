@@ -1,11 +1,11 @@
 -- The marks of a block comment, counted, tell how many comments are open.
-use Prim.Native.Nat.{ℕ, zero, suc, _+_, _<_, _≤_}
+use Prim.Native.Nat.{ℕ, zero, suc, _+_, _<_}
 use Rattle.lexer.specs.Comment.{closes, comment, comment-closed, opens}
 use Rattle.lexer.specs.TokenLaws.{closers, openers}
 use Rattle.std.proofs.shelf.Tests.{cases-bool}
 use borrow.Author.Tests.{clash}
-use lib.ListN.{drop, length, take}
-use mathlib.Core.Bool.{Bool, true, false}
+use lib.ListN.{length, take}
+use mathlib.Core.Bool.{true, false}
 use mathlib.Core.List.{List, [], _∷_}
 use mathlib.Core.Logic.{inl, inr}
 use mathlib.Core.Path.{_≡_, refl, ap, sym, _∙_}

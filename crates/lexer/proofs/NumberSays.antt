@@ -1,23 +1,23 @@
 -- What a constant's kind says of its bytes: a number is of one of the forms, and ends with its junk.
-use Prim.Native.Nat.{ℕ, zero, suc, _+_, _≤_}
+use Prim.Native.Nat.{ℕ, zero, suc, _+_}
 use Rattle.lexer.proofs.Forms.{based-read, decimal-more, exponent-or-none, exponent-read, group-read}
 use Rattle.lexer.proofs.Runs.{digits-within}
 use Rattle.lexer.specs.Class.{decimal, hexadecimal}
-use Rattle.lexer.specs.Cursor.{digit-met, digits, identifier, leads, peek}
-use Rattle.lexer.specs.Number.{after-digits, after-digits-len, base-of, based, based-len, decimal-len, decimal-number, either-case, empty-exponent, exponent, exponent-mark, fraction, fractional, fractional-len, has-point, in-base, in-base-len, number, number-len, numeric, numeric-len}
+use Rattle.lexer.specs.Cursor.{digit-met, digits, identifier, peek}
+use Rattle.lexer.specs.Number.{after-digits, after-digits-len, base-of, based, based-len, decimal-len, decimal-number, either-case, empty-exponent, exponent, exponent-mark, fractional, fractional-len, has-point, in-base, in-base-len, number, number-len, numeric, numeric-len}
 use Rattle.lexer.specs.TokenLaws.Fractional.{no-point, point-first, point-last, point-within}
-use Rattle.lexer.specs.TokenLaws.{Based, Exponent, ExponentOrNone, Fractional, Whole, grouped}
+use Rattle.lexer.specs.TokenLaws.{Based, ExponentOrNone, Fractional, Whole, grouped}
 use Rattle.lexer.specs.declared.token.Base.the-variants.{Binary, Octal, Decimal, Hexadecimal}
 use Rattle.lexer.specs.declared.token.Base.{Base}
 use Rattle.lexer.specs.declared.token.LiteralKind.the-variants.{Int, Numeric, Str, NationalStr, ByteStr, BitStr, DollarQuotedString, UnicodeEscStr, EscStr}
 use Rattle.lexer.specs.declared.token.LiteralKind.{LiteralKind}
 use Rattle.std.proofs.shelf.Lists.{append-assoc, append-nil, length-append, length-take-le, take-append-drop}
-use Rattle.std.proofs.shelf.Tests.{and-parts, cases-bool, cond-both}
-use Rattle.std.specs.declared.option.Option.the-variants.{Some, None}
+use Rattle.std.proofs.shelf.Tests.{and-parts, cases-bool}
+use Rattle.std.specs.declared.option.Option.the-variants.{None}
 use borrow.Author.Tests.{clash, eqb-true, eq-eqb}
 use lib.Dec.{eqb}
 use lib.ListN.{drop, length, take}
-use mathlib.Core.Bool.{Bool, true, false, cond, not, _&&_}
+use mathlib.Core.Bool.{Bool, true, false, not, _&&_}
 use mathlib.Core.List.{List, [], _∷_, _++_}
 use mathlib.Core.Logic.{inl, inr}
 use mathlib.Core.Path.{_≡_, refl, ap, sym, subst, _∙_}

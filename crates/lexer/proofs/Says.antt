@@ -8,19 +8,17 @@ use Rattle.lexer.proofs.Spans.{junk-after, longest-more, name-of, run-longest}
 use Rattle.lexer.specs.Class.{all-but, decimal, whitespace}
 use Rattle.lexer.specs.Comment.{comment, comment-closed}
 use Rattle.lexer.specs.Cursor.{identifier, peek, run}
-use Rattle.lexer.specs.Dollar.{dollar-kind, dollar-len, dollar-closed, opens-dollar, parameter}
+use Rattle.lexer.specs.Dollar.{dollar-kind, dollar-len, opens-dollar, parameter}
 use Rattle.lexer.specs.Lex.{kind-of, lex, rest-len, start-with}
 use Rattle.lexer.specs.Number.{fractional, fractional-len, number, number-len}
 use Rattle.lexer.specs.Psql.{command, psql-kind}
 use Rattle.lexer.specs.Quoted.{prefix-literal}
 use Rattle.lexer.specs.Start.{symbol}
-use Rattle.lexer.specs.TokenLaws.{Blank, Closed, JunkFrom, Longest, Name, Parameter, Unclosed, closers, openers}
+use Rattle.lexer.specs.TokenLaws.{Blank, Closed, Longest, Name, Parameter, Unclosed, closers, openers}
 use Rattle.lexer.specs.declared.quoted.Prefix.the-variants.{Esc, Bit, Byte, National, UnicodeEsc}
 use Rattle.lexer.specs.declared.quoted.Prefix.{Prefix}
 use Rattle.lexer.specs.declared.start.Start.the-variants.{Blanks, Line, Block, Prefixed, UnicodeStr, UnicodeIdent, Word, Digit, Point, TwoDots, Dollar, Command, Quote, DoubleQuote, Symbol}
 use Rattle.lexer.specs.declared.start.Start.{Start}
-use Rattle.lexer.specs.declared.token.LiteralKind.the-variants.{Int, Numeric, Str, NationalStr, ByteStr, BitStr, DollarQuotedString, UnicodeEscStr, EscStr}
-use Rattle.lexer.specs.declared.token.LiteralKind.{LiteralKind}
 use Rattle.lexer.specs.declared.token.TokenKind.the-variants.{Unknown, Literal, Whitespace, Ident, PsqlCommand, Semi, Eof, Slash, LineComment, BlockComment, Minus, Colon, Dot, DotDot, Eq, Gt, And, Lt, Bang, Plus, Tilde, Pound, Question, Or, Percent, Caret, Star, Backtick, At, CloseBracket, OpenBracket, CloseCurly, OpenCurly, CloseParen, OpenParen, Comma, PositionalParam, QuotedIdent}
 use Rattle.lexer.specs.declared.token.TokenKind.{TokenKind}
 use Rattle.std.proofs.shelf.Lists.{drop-all, drop-drop, drop-take, length-take, length-take-le, take-all, take-append-drop, take-take}
@@ -28,7 +26,7 @@ use Rattle.std.proofs.shelf.Tests.{cases-bool, cond-both}
 use borrow.Author.Tests.{clash}
 use lib.Dec.{eqb}
 use lib.ListN.{drop, length, take}
-use mathlib.Core.Bool.{Bool, true, false, cond}
+use mathlib.Core.Bool.{Bool, true, false}
 use mathlib.Core.List.{List, [], _∷_, _++_}
 use mathlib.Core.Logic.{inl, inr}
 use mathlib.Core.Path.{_≡_, refl, ap, sym, subst, _∙_}

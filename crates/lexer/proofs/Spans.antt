@@ -1,17 +1,16 @@
 -- What is read of a class is as long as it can be.
-use Prim.Native.Nat.{ℕ, suc, _+_, _≤_}
+use Prim.Native.Nat.{ℕ, suc, _+_}
 use Rattle.lexer.specs.Class.{decimal, ident-cont, ident-start}
 use Rattle.lexer.specs.Cursor.{identifier, leads, run}
 use Rattle.lexer.specs.TokenLaws.{Junk, Longest, Name, every}
 use Rattle.std.proofs.shelf.Lists.{drop-drop, drop-take}
 use Rattle.std.proofs.shelf.Tests.{and-from, and-parts, cases-bool}
-use borrow.Author.Tests.{clash}
 use lib.Dec.{eqb}
 use lib.ListN.{drop, take}
 use mathlib.Core.Bool.{Bool, true, false, not, _&&_}
 use mathlib.Core.List.{List, [], _∷_}
 use mathlib.Core.Logic.{inl, inr}
-use mathlib.Core.Path.{_≡_, refl, ap, sym, subst, _∙_}
+use mathlib.Core.Path.{_≡_, refl, sym, subst}
 use native.Mathlib.Omega.{arith}
 
 module _ (class : ℕ → Bool) where

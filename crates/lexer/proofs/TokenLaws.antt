@@ -1,26 +1,26 @@
 -- The laws of tokens, from what a token's kind says of its bytes.
 use Prim.Native.Nat.{ℕ, _+_, _<_, _≤_}
-use Rattle.lexer.proofs.NumberSays.{LiteralSays}
+use Rattle.lexer.proofs.Recognised.{fractional-read, whole-read}
 use Rattle.lexer.proofs.Says.{LineSays, Says, lex-says}
 use Rattle.lexer.proofs.Spans.{junk-after}
 use Rattle.lexer.proofs.Within.{lex-within}
-use Rattle.lexer.specs.Cursor.{identifier, peek}
+use Rattle.lexer.specs.Cursor.{identifier}
 use Rattle.lexer.specs.Lex.{lex, marked, token-at, token-from}
 use Rattle.lexer.specs.TokenLaws.{Always, Blank, Closed, ClosedComments, Fractional, FractionalNumbers, Identifiers, Junk, JunkFrom, JunkOfInts, JunkOfNumerics, LineComments, Name, Parameter, Parameters, TokenLaws, Unclosed, UnclosedComments, Whitespaces, Whole, WholeNumbers}
 use Rattle.lexer.specs.declared.token.LiteralKind.the-variants.{Int, Numeric}
 use Rattle.lexer.specs.declared.token.Token.{Token}
 use Rattle.lexer.specs.declared.token.TokenKind.the-variants.{BlockComment, Ident, LineComment, Literal, PositionalParam, Whitespace}
 use Rattle.lexer.specs.declared.token.TokenKind.{TokenKind}
-use Rattle.std.proofs.shelf.Lists.{drop-drop, drop-more, length-drop, length-take-le}
+use Rattle.std.proofs.shelf.Lists.{drop-drop, drop-more, length-take-le}
 use Rattle.std.proofs.shelf.Tests.{and-parts, cases-bool}
 use Rattle.std.specs.declared.option.Option.the-variants.{Some, None}
 use borrow.Author.Tests.{clash, eqb-true, ltb-true}
 use lib.Dec.{eqb, ltb}
 use lib.ListN.{drop, getD, length, take}
-use mathlib.Core.Bool.{Bool, true, false, cond, _&&_}
+use mathlib.Core.Bool.{true, false, _&&_}
 use mathlib.Core.List.{List, [], _∷_}
 use mathlib.Core.Logic.{_⊎_, inl, inr}
-use mathlib.Core.Path.{_≡_, refl, ap, sym, subst, _∙_}
+use mathlib.Core.Path.{_≡_, refl, sym, subst, _∙_}
 use native.Mathlib.Omega.{arith}
 
 -- a byte-order mark, byte by byte
@@ -135,4 +135,6 @@ token-laws =
       parameters = parameters;
       whole-numbers = whole-numbers;
       fractional-numbers = fractional-numbers;
+      whole-read = whole-read;
+      fractional-read = fractional-read;
     }

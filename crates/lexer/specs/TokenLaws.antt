@@ -2,9 +2,9 @@
 use Prim.Native.Nat.{ℕ, _+_, _<_, _≤_}
 use Rattle.lexer.specs.Class.{all-but, decimal, hexadecimal, ident-cont, ident-start, whitespace}
 use Rattle.lexer.specs.Comment.{closes, opens}
-use Rattle.lexer.specs.Cursor.{leads}
+use Rattle.lexer.specs.Cursor.{leads, peek}
 use Rattle.lexer.specs.Lex.{token-at}
-use Rattle.lexer.specs.Number.{either-case, exponent-mark, sign}
+use Rattle.lexer.specs.Number.{either-case, exponent-mark, has-point, sign}
 use Rattle.lexer.specs.declared.token.Base.the-variants.{Binary, Octal, Decimal, Hexadecimal}
 use Rattle.lexer.specs.declared.token.Base.{Base}
 use Rattle.lexer.specs.declared.token.LiteralKind.the-variants.{Int, Numeric}
@@ -150,6 +150,22 @@ WholeNumbers = Always (λ t token next. (base : Base) → t .kind ≡ Literal (I
 abbrev pub FractionalNumbers : Type 0
 FractionalNumbers = Always (λ t token next. t .kind ≡ Literal (Numeric None (t .len)) → Fractional token)
 
+-- what follows a number does not go on with it: its first byte, 0 past the end, is no digit and starts no name
+abbrev pub Stops : List ℕ → Type 0
+Stops next = (decimal (peek 0 next) ≡ false) × (ident-start (peek 0 next) ≡ false)
+
+-- conversely, each form is read as that number: a whole number before what stops it and is no point, unless there are two
+abbrev pub WholeRead : Type 0
+WholeRead =
+    (bs : List ℕ) (place : ℕ) (base : Base) (xs next : List ℕ) → drop place bs ≡ xs ++ next → Whole base xs → Stops next → has-point next ≡ false
+    → token-at bs place ≡ Some record { kind = Literal (Int base false (length xs)); len = length xs }
+
+-- and one with a point or an exponent before what stops it and is no point
+abbrev pub FractionalRead : Type 0
+FractionalRead =
+    (bs : List ℕ) (place : ℕ) (xs next : List ℕ) → drop place bs ≡ xs ++ next → Fractional xs → Stops next → eqb (peek 0 next) 46 ≡ false
+    → token-at bs place ≡ Some record { kind = Literal (Numeric None (length xs)); len = length xs }
+
 -- all of these
 pub record TokenLaws : Type 0 where
   pub closed-comments : ClosedComments
@@ -162,3 +178,5 @@ pub record TokenLaws : Type 0 where
   pub parameters : Parameters
   pub whole-numbers : WholeNumbers
   pub fractional-numbers : FractionalNumbers
+  pub whole-read : WholeRead
+  pub fractional-read : FractionalRead
