@@ -3,3 +3,4 @@ pub mod Roles
 pub mod Ends
 pub mod Statements
 pub mod Laws
+pub mod EndLaws

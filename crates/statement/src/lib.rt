@@ -2,6 +2,7 @@
 
 ghost use Prim.Native.Nat.{ℕ};
 ghost use Rattle.statement.specs.Causes.{cause-number};
+ghost use Rattle.statement.specs.EndLaws.{EndsStand};
 ghost use Rattle.statement.specs.Ends.{solid, unterminated, unterminated-role, first-state, next-state, own-end, last-cause, end-after};
 ghost use Rattle.statement.specs.Laws.{DepthCounts, SemicolonEnds, Shared};
 ghost use Rattle.statement.specs.Roles.{literal-role};
@@ -101,11 +102,12 @@ pub struct Ends {
 
 impl Ends {
     /// The rule before the first token. From here its state counts the parentheses left open, and a `;` ends a
-    /// statement exactly where there are none.
+    /// statement exactly where there are none. In a text, no end stands inside a token.
     pub fn new() -> Ends
         ensures state { λ r. ⌜ r .depth ≡ first-state ⌝ }
         ensures counts { λ _. ⌜ DepthCounts ⌝ }
         ensures semicolon { λ _. ⌜ SemicolonEnds ⌝ }
+        ensures places { λ _. ⌜ EndsStand ⌝ }
     {
         Ends { depth: 0 }
     }
