@@ -10,84 +10,22 @@ use Rattle.std.specs.Options.{valueOr}
 use Rattle.std.specs.shelf.Maps.{nth}
 use Rattle.std.specs.declared.option.Option.the-variants.{None, Some}
 use Rattle.std.proofs.shelf.Tests.{eqb-true, and-parts}
+use Rattle.lexer.proofs.Cuts.{reads-cut}
 use Rattle.lexer.specs.Cut.{cut, lengths}
 use Rattle.lexer.specs.Laws.{border}
-use Rattle.lexer.specs.declared.token.LiteralKind.{LiteralKind}
-use Rattle.lexer.specs.declared.token.LiteralKind.the-variants.{Int, Numeric, Str, NationalStr, ByteStr, BitStr, DollarQuotedString, UnicodeEscStr, EscStr}
 use Rattle.lexer.specs.declared.token.Token.{Token}
 use Rattle.lexer.specs.declared.token.TokenKind.{TokenKind}
-use Rattle.lexer.specs.declared.token.TokenKind.the-variants.{Unknown, Literal, Whitespace, Ident, PsqlCommand, Semi, Eof, Slash, LineComment, BlockComment, Minus, Colon, Dot, DotDot, Eq, Gt, And, Lt, Bang, Plus, Tilde, Pound, Question, Or, Percent, Caret, Star, Backtick, At, CloseBracket, OpenBracket, CloseCurly, OpenCurly, CloseParen, OpenParen, Comma, PositionalParam, QuotedIdent}
+use Rattle.lexer.specs.declared.token.TokenKind.the-variants.{Semi}
 use Rattle.statement.specs.declared.Cause.{Cause}
 use Rattle.statement.specs.declared.Cause.the-variants.{Semicolon, Last, Unterminated}
 use Rattle.statement.specs.declared.Statement.{Statement}
-use Rattle.statement.specs.Roles.{Role, blank, plain, opening, closing, semicolon, command, role, literal-role}
+use Rattle.statement.specs.Roles.{Role, blank, plain, opening, closing, semicolon, command, role}
 use Rattle.statement.specs.Ends.{solid, unterminated, next-state, own-end, role-end, last-cause, end-after}
 use Rattle.statement.specs.Statements.{statements-on}
 use Rattle.statement.specs.Laws.{tokens-in}
 use Rattle.statement.specs.EndLaws.{lone-semicolon, statements-of-text, EndStands, EndsStand}
+use Rattle.statement.proofs.Semicolons.{OfSemicolon, semicolon-kind, lone-place}
 use Rattle.statement.proofs.Turns.{beyond}
-
--- a fact that is asked of semicolons only
-abbrev OfSemicolon : Type 0 → Role → Type 0
-OfSemicolon A (blank terminated) = Unit {0}
-OfSemicolon A (plain terminated) = Unit {0}
-OfSemicolon A opening = Unit {0}
-OfSemicolon A closing = Unit {0}
-OfSemicolon A semicolon = A
-OfSemicolon A (command ends-query) = Unit {0}
-
--- no literal is one
-literal-none : (A : Type 0) (k : LiteralKind) → OfSemicolon A (literal-role k)
-literal-none A (Int base empty junk) = tt
-literal-none A (Numeric exponent junk) = tt
-literal-none A (Str t) = tt
-literal-none A (NationalStr t) = tt
-literal-none A (ByteStr t) = tt
-literal-none A (BitStr t) = tt
-literal-none A (DollarQuotedString t) = tt
-literal-none A (UnicodeEscStr t) = tt
-literal-none A (EscStr t) = tt
-
--- the only kind with that role
-semicolon-kind : (k : TokenKind) → OfSemicolon (k ≡ Semi) (role k)
-semicolon-kind Unknown = tt
-semicolon-kind (Literal k) = literal-none (Literal k ≡ Semi) k
-semicolon-kind Whitespace = tt
-semicolon-kind Ident = tt
-semicolon-kind (PsqlCommand e) = tt
-semicolon-kind Semi = refl
-semicolon-kind Eof = tt
-semicolon-kind Slash = tt
-semicolon-kind LineComment = tt
-semicolon-kind (BlockComment t) = tt
-semicolon-kind Minus = tt
-semicolon-kind Colon = tt
-semicolon-kind Dot = tt
-semicolon-kind DotDot = tt
-semicolon-kind Eq = tt
-semicolon-kind Gt = tt
-semicolon-kind And = tt
-semicolon-kind Lt = tt
-semicolon-kind Bang = tt
-semicolon-kind Plus = tt
-semicolon-kind Tilde = tt
-semicolon-kind Pound = tt
-semicolon-kind Question = tt
-semicolon-kind Or = tt
-semicolon-kind Percent = tt
-semicolon-kind Caret = tt
-semicolon-kind Star = tt
-semicolon-kind Backtick = tt
-semicolon-kind At = tt
-semicolon-kind CloseBracket = tt
-semicolon-kind OpenBracket = tt
-semicolon-kind CloseCurly = tt
-semicolon-kind OpenCurly = tt
-semicolon-kind CloseParen = tt
-semicolon-kind OpenParen = tt
-semicolon-kind Comma = tt
-semicolon-kind (PositionalParam j) = tt
-semicolon-kind (QuotedIdent t u) = tt
 
 -- an end with a `;` as its cause stands after one that is a token of its own
 role-lone : (d n : ℕ) (k : TokenKind) (r : Role) → OfSemicolon (k ≡ Semi) r → role-end d n r ≡ Some Semicolon → (k ≡ Semi) × (n ≡ 1)
@@ -183,6 +121,24 @@ none-inside (t ∷ ts) zero i h g = omega arith
 none-inside (t ∷ ts) (suc m) zero h g = omega arith
 none-inside (t ∷ ts) (suc m) (suc i) h g = none-inside ts m i (omega arith) (omega arith)
 
+-- a token ends its length after those before it
+token-end : (ts : List Token) (i : ℕ) (t : Token) → nth ts i ≡ Some t → lengths (take (suc i) ts) ≡ lengths (take i ts) + t .len
+token-end [] i t e = let z : _≡_ {A = ℕ} 0 1 = cc in absurd (omega arith)
+token-end (u ∷ ts) zero t e =
+    let same : u ≡ t = cc in
+    let len = ap (λ x. x .len) same in
+    omega arith
+token-end (u ∷ ts) (suc i) t e = let more = token-end ts i t e in omega arith
+
+-- the byte before a border is a `;` if the token there is one
+last-byte : (bs : List ℕ) (m : ℕ) → 0 < m → nth (cut bs) (m - 1) ≡ Some lone-semicolon → nth bs (border bs m - 1) ≡ Some 59
+last-byte bs m h e =
+    let i = m - 1 in
+    let next : suc i ≡ m = omega arith in
+    let long = token-end (cut bs) i lone-semicolon e in
+    let place : border bs (suc i) - 1 ≡ border bs i = omega (arith, long) in
+    ap (λ n. nth bs (border bs n - 1)) (sym next) ∙ ap (nth bs) place ∙ lone-place bs (border bs i) (reads-cut bs i ∙ e)
+
 pub ends-stand : EndsStand
 ends-stand bs k s e =
     let ss = statements-of-text bs in
@@ -192,5 +148,6 @@ ends-stand bs k s e =
       some = x .some;
       there = omega (arith, x .there);
       semicolon = x .lone;
+      byte = λ c. last-byte bs (tokens-in (take (suc k) ss)) (x .some) (x .lone c);
       outside = λ i h. none-inside (cut bs) (tokens-in (take (suc k) ss)) i (h .begins) (subst (λ n. border bs (tokens-in (take (suc k) ss)) < border bs n) (sym (next i)) (h .ends));
     }

@@ -29,11 +29,13 @@ pub record Inside (bs : List ℕ) (token place : ℕ) : Type 0 where
   pub ends : place < border bs (token + 1)
 
 -- An end that stands after a text's first `passed` tokens. There is a token before it. If a `;` is its cause, that token
--- is one. The end is inside no token: no string, quoted identifier, dollar quote, comment or psql command.
+-- is one, and its byte stands directly before the end. The end is inside no token: no string, quoted identifier, dollar
+-- quote, comment or psql command.
 pub record EndStands (bs : List ℕ) (passed : ℕ) (cause : Cause) : Type 0 where
   pub some : 0 < passed
   pub there : passed ≤ length (cut bs)
   pub semicolon : cause ≡ Semicolon → nth (cut bs) (passed - 1) ≡ Some lone-semicolon
+  pub byte : cause ≡ Semicolon → nth bs (border bs passed - 1) ≡ Some 59
   pub outside : (token : ℕ) → Inside bs token (border bs passed) → ⊥
 
 -- each statement of a text ends so, after its own tokens and those of the statements before it
