@@ -1,6 +1,5 @@
 -- Tokens are equal exactly where `same` says so: a kind is read back from its parts.
 use Prim.Native.Nat.{ℕ}
-use Rattle.lexer.specs.Token.{base-number}
 use Rattle.lexer.specs.declared.token.Base.the-variants.{Binary, Octal, Decimal, Hexadecimal}
 use Rattle.lexer.specs.declared.token.Base.{Base}
 use Rattle.lexer.specs.declared.token.LiteralKind.the-variants.{Int, Numeric, Str, NationalStr, ByteStr, BitStr, DollarQuotedString, UnicodeEscStr, EscStr}
@@ -8,15 +7,14 @@ use Rattle.lexer.specs.declared.token.LiteralKind.{LiteralKind}
 use Rattle.lexer.specs.declared.token.Token.{Token}
 use Rattle.lexer.specs.declared.token.TokenKind.the-variants.{Unknown, Literal, Whitespace, Ident, PsqlCommand, Semi, Eof, Slash, LineComment, BlockComment, Minus, Colon, Dot, DotDot, Eq, Gt, And, Lt, Bang, Plus, Tilde, Pound, Question, Or, Percent, Caret, Star, Backtick, At, CloseBracket, OpenBracket, CloseCurly, OpenCurly, CloseParen, OpenParen, Comma, PositionalParam, QuotedIdent}
 use Rattle.lexer.specs.declared.token.TokenKind.{TokenKind}
-use Rattle.std.proofs.shelf.Tests.{and-from, and-parts, cases-bool, eq-eqb, eqb-true, false≢true}
+use Rattle.std.proofs.shelf.Tests.{and-from, and-parts, eq-eqb, eqb-true, false≢true}
 use Rattle.std.specs.Orderings.{Decides}
 use Rattle.std.specs.declared.option.Option.the-variants.{Some, None}
 use Rattle.std.specs.declared.option.Option.{Option}
 use Rattle.table.specs.Same.{kind-parts, parts, same, same-flag, same-parts, same-start}
 use Rattle.table.specs.declared.same.Parts.{Parts}
 use lib.Dec.{eqb}
-use mathlib.Core.Bool.{Bool, true, false, cond, _&&_}
-use mathlib.Core.Logic.{inl, inr}
+use mathlib.Core.Bool.{Bool, true, false, cond}
 use mathlib.Core.Path.{_≡_, refl, ap, sym, subst, _∙_}
 
 flags-equal : (a b : Bool) → same-flag a b ≡ true → a ≡ b
