@@ -19,7 +19,7 @@ fn main() -> ExitCode {
         .next()
         .map_or(1, |word| word.parse().expect("a number"));
     let mut record = Record::default();
-    for text in FIXED.iter().chain(PARTINGS) {
+    for text in FIXED.iter().chain(PARTINGS).chain(EXAMPLES) {
         record.keep(text.as_bytes());
     }
     for family in texts::whole_families() {
@@ -61,6 +61,21 @@ const PARTINGS: &[&str] = &[
     "\\echo a\rb;\nc;", "a \\g '('format=csv) |c \\\\;b\nd;", "a \\g (format=csv)'\\0' |c \\\\;b\nd;", ":a$$;", ":E'\\';", "$E'\\';", "1e$$;",
     "0x$$;", "1_1$$;", "1e5$$;", "1e--;", "0o9", "X'1''f'", "\\foo a\\\\;b\nc;", "\\\\;a;", "a \\g (format=csv |c \\\\;b\nd;",
     "\\unrestrict a\\\\;b\nc;", "copy t from stdin;\nit's\n\\.\na;", "\\if false\na(\n\\endif\nb;",
+];
+
+/// The examples of docs/TOKENS.md, save those where we part from the Rust on purpose.
+#[rustfmt::skip]
+const EXAMPLES: &[&str] = &[
+    "\u{feff} ", "a--b\nc", "--a\rb", "/*/", "/*/**/*/", "/**/*/", "a$1é", "\"a\"\"b\"c", "U&\"a\"", "u&a", "\"a\\\"b", "\"a",
+    "'a''b'", "'\\''", "E'\\''", "E'\\\\''a'", "E'a\\", "we'a'", "n'a'X'f'b'1'", "u&'\\'", "'a'\n'b'", "$$a$b$$", "$$$",
+    "$a$x$ab$y$a$", "$a$a$", "$a$x$A$", "$é$x$é$", "$1a$", "$1", "$", "$1$", "$a b$", "42", "1_000", "1_", "1__2", "007", "1a$",
+    "4.", ".001", "1._5", "1.5_0e-1_0", "1e+", "1e_5", "1.e", "1e5x", "1..10", "1...5", "1.2.3", "0b29", "0xFF_g", "0o_17",
+    "0x", "0xg", "0b_", "\\\\;", "a\\;b\\:c", "\\", "\\echo a;b\n;", "\\echo a\rb", "\\g a\\d", "\\G a", "\\echo 'a\\'b' c",
+    "\\echo 'a;\n;", "\\echo \"\\\" \\d", "\\echo `\\` \\d", "\\! a\\b", "\\CoPy a\\b", "\\o |x\\d", "\\o a |x\\d", "\\o|x\\d",
+    "\\g (a) |x\\d", "\\g (a |b) |x\\d", "\\g (a)b |x\\d", "\\g (a|x\\d", "\\g(a) |x\\d", "\\g (a')' |x\\d",
+    "\\g (a'\\)' |x\\d", "\\g (a\")\" |x\\d", "\\g (a)'' |x\\d", "\\g (a'\\0519' |x\\d", "\\g (a'\\x029' |x\\d",
+    "\\g (a'\\8' |x\\d", "\u{feff} ", "1e+", "0b29", "1..10", "/*/", "/*/**/*/", "$a$x$ab$y$a$", "$a$a$", "$1a$", "E'\\''",
+    "'\\''", "\\g (a) |x\\d", "\\g a\\d",
 ];
 
 /// The texts kept so far.

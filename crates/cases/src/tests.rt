@@ -1,4 +1,5 @@
-//! Cases that are run. The expected lines are those of the Rust lexer for the same bytes.
+//! Cases that are run. The expected lines are those of the Rust lexer for the same bytes, and by psql's reference page where
+//! the two part.
 
 use listing::list_input;
 use std::alloc::Global;
@@ -88,4 +89,29 @@ fn run_cases(rt: LibcRuntime) -> Result<(), Fail> {
          end 2 3 4 1 0\n\
          total 5 3 2\n",
     )
+}
+
+/// Escapes and two single quotes in the options of `\g (`.
+#[test]
+fn options_by_the_page(rt: LibcRuntime) -> Result<(), Fail> {
+    let one = "token 0 16 PsqlCommand 1\n\
+         end 0 16 2 1 1\n\
+         total 16 1 1\n";
+    let two = "token 0 13 PsqlCommand 1\n\
+         end 0 13 2 1 1\n\
+         token 13 2 PsqlCommand 0\n\
+         end 13 2 3 1 1\n\
+         total 15 2 2\n";
+    lists(rt.alloc(), b"\\g (a'\\051' |x\\d", one)?;
+    lists(
+        rt.alloc(),
+        b"\\g (a'\\51' |x\\d",
+        "token 0 15 PsqlCommand 1\n\
+         end 0 15 2 1 1\n\
+         total 15 1 1\n",
+    )?;
+    lists(rt.alloc(), b"\\g (a'\\451' |x\\d", one)?;
+    lists(rt.alloc(), b"\\g (a'\\x29' |x\\d", one)?;
+    lists(rt.alloc(), b"\\g (a')''' |x\\d", two)?;
+    lists(rt.alloc(), b"\\g (a)'''' |x\\d", two)
 }
