@@ -1,7 +1,8 @@
 -- To read a text token by token is to go along its cut.
 use Prim.Native.Nat.{ℕ, zero, suc, _+_, _<_, _≤_}
 use Rattle.lexer.specs.Cut.{cut, lengths}
-use Rattle.lexer.specs.Laws.{CutLaws, border}
+use Rattle.lexer.specs.AllLaws.{AllLaws}
+use Rattle.lexer.specs.Laws.{border}
 use Rattle.lexer.specs.Lex.{token-at}
 use Rattle.lexer.specs.declared.token.Token.{Token}
 use Rattle.std.proofs.shelf.Lists.{take-more, take-more-set}
@@ -59,7 +60,7 @@ pub record Reading (bs : List ℕ) (place count : ℕ) : Type 0 where
 pub reading-start : (bs : List ℕ) → Reading bs 0 0
 reading-start bs = record { few = omega arith; inside = omega arith; there = refl; within = omega arith }
 
-module _ (laws : CutLaws) (bs : List ℕ) (place count : ℕ) (so : Reading bs place count) where
+module _ (laws : AllLaws) (bs : List ℕ) (place count : ℕ) (so : Reading bs place count) where
   -- the token at its place is the next of the cut
   pub reading-next : token-at bs place ≡ nth (cut bs) count
   reading-next = ap (token-at bs) (so .there) ∙ laws .reads-cut bs count

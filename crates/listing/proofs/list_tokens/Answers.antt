@@ -29,6 +29,15 @@ loop-token-again g c =
       walking-more bs size w (string-bytes (c .loop-token .lines)) (inv .3) (c .list-token .last .walk) (string-bytes (c .list-token .last .lines)) t (sym (c .in-Some .ensures tt .value)) (there .0) onward (c .in-Continue-list-token .ensures tt .lines),
     )
 
+pub loop-token-less : need.loop-token-less
+loop-token-less g c =
+    let w = c .loop-token .walk in
+    let t = c .in-Some .token in
+    let end = end-there (c .len-size .result) w t in
+    let there = c .in-Some .ensures tt .inside in
+    let inv = c .loop-token .inv in
+    omega (arith, there .0, there .1, ap (λ u. u .place) (c .in-Continue-list-token .ensures tt .walk), place-past w t end, inv .0)
+
 pub returns : need.returns
 returns g c =
     let bs = g .T·Text .bytes (c .args .text .now) in
