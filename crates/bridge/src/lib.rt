@@ -1,4 +1,5 @@
 //! The listing for programs in other languages.
+#![tactic(auto)]
 
 ghost use Rattle.bridge.specs.Fill.{filled};
 ghost use Rattle.bridge.specs.Handed.{Fills, no_memory};

@@ -1,4 +1,5 @@
 //! Worked cases: the tokens of some texts, and where their statements end.
+#![tactic(auto)]
 
 ghost use Rattle.cases.specs.Case.{AllStand};
 ghost use Rattle.cases.specs.Worked.{worked};

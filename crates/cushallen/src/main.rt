@@ -1,11 +1,12 @@
 //! The program: lists the tokens and the statement ends of the script on standard input.
+#![tactic(auto)]
 
 ghost use Rattle.std.specs.Prelude.{◌≤◌, IfOk, vec_len};
 
-use anyhow::anyhow;
 use listing::{LONGEST_INPUT, list_input};
 use std::alloc::Global;
 use std::io::{Read, Write};
+use std::process::ExitCode;
 
 /// One byte more than the longest input is enough to see that it is too long.
 const ENOUGH: usize = LONGEST_INPUT as usize + 1;
@@ -29,12 +30,12 @@ fn read_input(rt: &HostRuntime, heap: Global) -> anyhow::Result<Vec<u8>>
 }
 
 /// Ends with status 1 where the input is refused.
-fn main(rt: HostRuntime) -> anyhow::Result<()> {
+fn main(rt: HostRuntime) -> anyhow::Result<ExitCode> {
     let input = read_input(&rt, rt.alloc())?;
     let listing = list_input(rt.alloc(), &input)?;
     rt.stdout().write_all(listing.lines.as_bytes())?;
     if listing.refused {
-        return Err(anyhow!("the input is refused"));
+        return Ok(ExitCode::FAILURE);
     }
-    Ok(())
+    Ok(ExitCode::SUCCESS)
 }

@@ -16,7 +16,7 @@ impl<'a, T: Text> Cursor<'a, T> {
     /// The token that begins where the cursor stands; at the end, `Eof` of no bytes.
     fn advance_token(&mut self) -> Token
         requires { self.old.place ≡ self.old.start }
-        ensures { result ≡ token_from (rest T.Text.bytes self.old) }
+        ensures { result ≡ token_from (rest T.bytes self.old) }
     {
         let Some(first_char) = self.bump() else {
             return Token {
@@ -34,11 +34,11 @@ impl<'a, T: Text> Cursor<'a, T> {
 
     /// Goes on after the first character of a token that starts so.
     fn finish(&mut self, start: Start, first_char: char) -> TokenKind
-        requires begun { start ≡ start_with first_char (rest T.Text.bytes self.old) }
+        requires begun { start ≡ start_with first_char (rest T.bytes self.old) }
         requires one { self.old.place ≡ self.old.start + 1 }
-        requires first { slice_index (T.Text.bytes self.old.text.now) self.old.start ≡ first_char }
-        ensures kind { result ≡ kind_of start first_char (rest T.Text.bytes self.old) }
-        ensures moved { Moved self.old self.new (rest_len start first_char (rest T.Text.bytes self.old)) }
+        requires first { slice_index (T.bytes self.old.text.now) self.old.start ≡ first_char }
+        ensures kind { result ≡ kind_of start first_char (rest T.bytes self.old) }
+        ensures moved { Moved self.old self.new (rest_len start first_char (rest T.bytes self.old)) }
     {
         match start {
             Start::Blanks => self.whitespace(),
@@ -98,8 +98,8 @@ impl<'a, T: Text> Cursor<'a, T> {
 /// The token that begins at a place of the text, or none where the place is not below the length. A byte-order mark at the
 /// very start is whitespace of its own.
 pub fn token_at<T: Text>(text: &T, place: u32) -> Option<Token>
-    ensures value { result ≡ token_at (T.Text.bytes text.now) place }
-    ensures inside { MatchOption result (length (T.Text.bytes text.now) ≤ place) (λ t. (0 < t.len) × (place + t.len ≤ length (T.Text.bytes text.now))) }
+    ensures value { result ≡ token_at (T.bytes text.now) place }
+    ensures inside { MatchOption result (length (T.bytes text.now) ≤ place) (λ t. (0 < t.len) × (place + t.len ≤ length (T.bytes text.now))) }
     ensures laws { AllLaws }
     ensures real { IfSome result (λ t. is_eof t.kind ≡ false) }
 {
@@ -117,7 +117,7 @@ pub fn token_at<T: Text>(text: &T, place: u32) -> Option<Token>
 
 /// Whether the text starts with a byte-order mark.
 fn starts_with_mark<T: Text>(text: &T) -> bool
-    ensures { result ≡ marked (T.Text.bytes text.now) }
+    ensures { result ≡ marked (T.bytes text.now) }
 {
     byte_at(text, 0) == 0xef && byte_at(text, 1) == 0xbb && byte_at(text, 2) == 0xbf
 }

@@ -3,9 +3,8 @@
 //! A class is asked about bytes. A byte from 128 on stands for the character that it is a part of: each
 //! class below holds all of these bytes or none, so that a run never stops inside a character.
 
-ghost use Rattle.std.specs.Prelude.{◌≡◌, ℕ, Bool, false};
+ghost use Rattle.std.specs.Prelude.{◌≡◌, ℕ, Bool, false, refl};
 ghost use Rattle.lexer.specs.Class.{all_but, command_letter, decimal, hexadecimal, ident_cont, ident_start, line_blank, tag_cont, whitespace};
-ghost use Rattle.std.proofs.Common.{rules};
 
 /// A class says of each character whether it belongs.
 pub(crate) trait Class {
@@ -124,7 +123,7 @@ impl Class for DecimalDigit {
 impl DigitClass for DecimalDigit {
     ghost digit = { decimal };
 
-    ghost bare = { Prim.search rules };
+    ghost bare = { refl };
 
     fn has_digit(byte: u8) -> bool {
         byte.is_ascii_digit()
@@ -137,7 +136,7 @@ pub(crate) struct HexDigit;
 impl DigitClass for HexDigit {
     ghost digit = { hexadecimal };
 
-    ghost bare = { Prim.search rules };
+    ghost bare = { refl };
 
     fn has_digit(byte: u8) -> bool {
         byte.is_ascii_hexdigit()

@@ -13,7 +13,7 @@ impl<'a, T: Text> Cursor<'a, T> {
     /// Goes on after `--`: the comment runs to the end of its line.
     pub(crate) fn line_comment(&mut self) -> TokenKind
         ensures kind { result ≡ TokenKind.LineComment }
-        ensures moved { Moved self.old self.new (run (all_but 10 13) (rest T.Text.bytes self.old)) }
+        ensures moved { Moved self.old self.new (run (all_but 10 13) (rest T.bytes self.old)) }
     {
         self.eat_until2(b'\n', b'\r');
         TokenKind::LineComment
@@ -21,8 +21,8 @@ impl<'a, T: Text> Cursor<'a, T> {
 
     /// Goes on after `/*`.
     pub(crate) fn block_comment(&mut self) -> TokenKind
-        ensures kind { result ≡ TokenKind.BlockComment (comment_closed 1 (rest T.Text.bytes self.old)) }
-        ensures moved { Moved self.old self.new (comment 1 (rest T.Text.bytes self.old)) }
+        ensures kind { result ≡ TokenKind.BlockComment (comment_closed 1 (rest T.bytes self.old)) }
+        ensures moved { Moved self.old self.new (comment 1 (rest T.bytes self.old)) }
     {
         let (end, terminated) = comment_end(self.text(), self.place());
         self.move_to(end);
@@ -33,8 +33,8 @@ impl<'a, T: Text> Cursor<'a, T> {
 /// Where the comment ends whose opening mark ends at the place: after as many `*/` as `/*`, or with the text. And whether
 /// it is closed.
 fn comment_end<T: Text>(text: &T, place: u32) -> (u32, bool)
-    ensures end { result.0 ≡ place + comment 1 (drop place (T.Text.bytes text.now)) }
-    ensures closed { result.1 ≡ comment_closed 1 (drop place (T.Text.bytes text.now)) }
+    ensures end { result.0 ≡ place + comment 1 (drop place (T.bytes text.now)) }
+    ensures closed { result.1 ≡ comment_closed 1 (drop place (T.bytes text.now)) }
 {
     let mut depth: usize = 1;
     let mut end = place;

@@ -34,20 +34,20 @@ impl<'a, T: Text> Cursor<'a, T> {
 
     /// The next character, which stays where it is.
     pub(crate) fn first(&self) -> char
-        ensures { result ≡ peek 0 (rest T.Text.bytes self.now) }
+        ensures { result ≡ peek 0 (rest T.bytes self.now) }
     {
         self.peek_char(0)
     }
 
     /// The character after the next.
     pub(crate) fn second(&self) -> char
-        ensures { result ≡ peek 1 (rest T.Text.bytes self.now) }
+        ensures { result ≡ peek 1 (rest T.bytes self.now) }
     {
         self.peek_char(1)
     }
 
     fn peek_char(&self, ahead: u32) -> char
-        ensures { result ≡ peek ahead (rest T.Text.bytes self.now) }
+        ensures { result ≡ peek ahead (rest T.bytes self.now) }
     {
         match self.byte_ahead(ahead) {
             Some(byte) => char::from(byte),
@@ -56,7 +56,7 @@ impl<'a, T: Text> Cursor<'a, T> {
     }
 
     fn byte_ahead(&self, ahead: u32) -> Option<u8>
-        ensures { result ≡ slice_get (rest T.Text.bytes self.now) ahead }
+        ensures { result ≡ slice_get (rest T.bytes self.now) ahead }
     {
         let place = self.place.checked_add(ahead)?;
         self.text.byte(place)
@@ -64,7 +64,7 @@ impl<'a, T: Text> Cursor<'a, T> {
 
     /// Whether the next character belongs to the class.
     pub(crate) fn next_in<C: Class>(&self, class: &C) -> bool
-        ensures { result ≡ leads (C.Class.holds class.now) (rest T.Text.bytes self.now) }
+        ensures { result ≡ leads (C.holds class.now) (rest T.bytes self.now) }
     {
         match self.text.byte(self.place) {
             Some(byte) => class.has(byte),
@@ -74,7 +74,7 @@ impl<'a, T: Text> Cursor<'a, T> {
 
     /// The character after the longest run of characters of the class.
     pub(crate) fn char_after_run<C: Class>(&self, class: &C) -> char
-        ensures { result ≡ peek (run (C.Class.holds class.now) (rest T.Text.bytes self.now)) (rest T.Text.bytes self.now) }
+        ensures { result ≡ peek (run (C.holds class.now) (rest T.bytes self.now)) (rest T.bytes self.now) }
     {
         match self.text.byte(self.run_end(class)) {
             Some(byte) => char::from(byte),
@@ -84,7 +84,7 @@ impl<'a, T: Text> Cursor<'a, T> {
 
     /// Whether nothing follows.
     pub(crate) fn is_eof(&self) -> bool
-        ensures { result ≡ at_end (rest T.Text.bytes self.now) }
+        ensures { result ≡ at_end (rest T.bytes self.now) }
     {
         self.text.byte(self.place).is_none()
     }
@@ -122,8 +122,8 @@ impl<'a, T: Text> Cursor<'a, T> {
 
     /// Eats the next character. One beyond ASCII is eaten byte by byte.
     pub(crate) fn bump(&mut self) -> Option<char>
-        ensures value { result ≡ slice_get (rest T.Text.bytes self.old) 0 }
-        ensures moved { Moved self.old self.new (next_len (rest T.Text.bytes self.old)) }
+        ensures value { result ≡ slice_get (rest T.bytes self.old) 0 }
+        ensures moved { Moved self.old self.new (next_len (rest T.bytes self.old)) }
     {
         let byte = self.text.byte(self.place)?;
         self.place += 1;
@@ -132,14 +132,14 @@ impl<'a, T: Text> Cursor<'a, T> {
 
     /// Eats characters as long as they belong to the class.
     pub(crate) fn eat_while<C: Class>(&mut self, class: &C)
-        ensures { Moved self.old self.new (run (C.Class.holds class.now) (rest T.Text.bytes self.old)) }
+        ensures { Moved self.old self.new (run (C.holds class.now) (rest T.bytes self.old)) }
     {
         self.place = self.run_end(class);
     }
 
     /// Where the longest run of characters of the class ends.
     fn run_end<C: Class>(&self, class: &C) -> u32
-        ensures { result ≡ self.now.place + run (C.Class.holds class.now) (rest T.Text.bytes self.now) }
+        ensures { result ≡ self.now.place + run (C.holds class.now) (rest T.bytes self.now) }
     {
         let mut place = self.place;
         while let Some(byte) = self.text.byte(place) {
@@ -153,14 +153,14 @@ impl<'a, T: Text> Cursor<'a, T> {
 
     /// Eats up to the first of the byte, or to the end.
     pub(crate) fn eat_until(&mut self, byte: u8)
-        ensures { Moved self.old self.new (run (all_but byte byte) (rest T.Text.bytes self.old)) }
+        ensures { Moved self.old self.new (run (all_but byte byte) (rest T.bytes self.old)) }
     {
         self.eat_until2(byte, byte);
     }
 
     /// Eats up to the first of either byte, or to the end.
     pub(crate) fn eat_until2(&mut self, first: u8, second: u8)
-        ensures { Moved self.old self.new (run (all_but first second) (rest T.Text.bytes self.old)) }
+        ensures { Moved self.old self.new (run (all_but first second) (rest T.bytes self.old)) }
     {
         self.eat_while(&AllBut(first, second));
     }
@@ -168,7 +168,7 @@ impl<'a, T: Text> Cursor<'a, T> {
     /// Goes on after the first character of an identifier.
     pub(crate) fn ident(&mut self) -> TokenKind
         ensures kind { result ≡ TokenKind.Ident }
-        ensures moved { Moved self.old self.new (run ident_cont (rest T.Text.bytes self.old)) }
+        ensures moved { Moved self.old self.new (run ident_cont (rest T.bytes self.old)) }
     {
         self.eat_while(&IdentCont);
         TokenKind::Ident
@@ -177,7 +177,7 @@ impl<'a, T: Text> Cursor<'a, T> {
     /// Goes on after the first character of whitespace.
     pub(crate) fn whitespace(&mut self) -> TokenKind
         ensures kind { result ≡ TokenKind.Whitespace }
-        ensures moved { Moved self.old self.new (run whitespace (rest T.Text.bytes self.old)) }
+        ensures moved { Moved self.old self.new (run whitespace (rest T.bytes self.old)) }
     {
         self.eat_while(&Whitespace);
         TokenKind::Whitespace
@@ -185,7 +185,7 @@ impl<'a, T: Text> Cursor<'a, T> {
 
     /// Eats what follows of a junk identifier: a starting character and those that go on with it, or nothing.
     pub(crate) fn eat_identifier(&mut self)
-        ensures { Moved self.old self.new (identifier (rest T.Text.bytes self.old)) }
+        ensures { Moved self.old self.new (identifier (rest T.bytes self.old)) }
     {
         if self.next_in(&IdentStart) {
             self.eat_while(&IdentCont);
@@ -194,8 +194,8 @@ impl<'a, T: Text> Cursor<'a, T> {
 
     /// Eats the digits that follow, and says whether there are any.
     pub(crate) fn eat_digits<C: DigitClass>(&mut self) -> bool
-        ensures met { result ≡ digit_met C.DigitClass.digit (rest T.Text.bytes self.old) }
-        ensures moved { Moved self.old self.new (digits C.DigitClass.digit (rest T.Text.bytes self.old)) }
+        ensures met { result ≡ digit_met C.digit (rest T.bytes self.old) }
+        ensures moved { Moved self.old self.new (digits C.digit (rest T.bytes self.old)) }
     {
         let (end, has_digits) = self.digit_run::<C>();
         self.place = end;
@@ -205,8 +205,8 @@ impl<'a, T: Text> Cursor<'a, T> {
     /// Where the run of digits that follows ends, and whether a digit was met. An underscore belongs to the run
     /// only if a digit follows it.
     fn digit_run<C: DigitClass>(&self) -> (u32, bool)
-        ensures end { result.0 ≡ self.now.place + digits C.DigitClass.digit (rest T.Text.bytes self.now) }
-        ensures met { result.1 ≡ digit_met C.DigitClass.digit (rest T.Text.bytes self.now) }
+        ensures end { result.0 ≡ self.now.place + digits C.digit (rest T.bytes self.now) }
+        ensures met { result.1 ≡ digit_met C.digit (rest T.bytes self.now) }
     {
         let mut place = self.place;
         let mut met = false;
@@ -224,15 +224,15 @@ impl<'a, T: Text> Cursor<'a, T> {
 
 /// The byte at a place, or 0 past the end.
 pub(crate) fn byte_at<T: Text>(text: &T, place: u32) -> u8
-    ensures { result ≡ slice_index (T.Text.bytes text.now) place }
+    ensures { result ≡ slice_index (T.bytes text.now) place }
 {
     text.byte(place).unwrap_or(0)
 }
 
 /// Whether the byte at the place is an underscore that a digit of the class follows.
 fn is_joint<C: DigitClass, T: Text>(text: &T, place: u32, byte: u8) -> bool
-    requires { place < length (T.Text.bytes text.now) }
-    ensures { result ≡ (byte == 95 && leads C.DigitClass.digit (drop (place + 1) (T.Text.bytes text.now))) }
+    requires { place < length (T.bytes text.now) }
+    ensures { result ≡ (byte == 95 && leads C.digit (drop (place + 1) (T.bytes text.now))) }
 {
     if byte != b'_' {
         return false;

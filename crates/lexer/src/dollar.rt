@@ -14,9 +14,9 @@ impl<'a, T: Text> Cursor<'a, T> {
     /// Goes on after a `$`, the token's first character.
     pub(crate) fn dollar(&mut self) -> TokenKind
         requires first { self.old.place ≡ self.old.start + 1 }
-        requires sign { slice_index (T.Text.bytes self.old.text.now) self.old.start ≡ 36 }
-        ensures kind { result ≡ dollar_kind (rest T.Text.bytes self.old) }
-        ensures moved { Moved self.old self.new (dollar_len (rest T.Text.bytes self.old)) }
+        requires sign { slice_index (T.bytes self.old.text.now) self.old.start ≡ 36 }
+        ensures kind { result ≡ dollar_kind (rest T.bytes self.old) }
+        ensures moved { Moved self.old self.new (dollar_len (rest T.bytes self.old)) }
     {
         if self.is_dollar_quote_start() {
             let terminated = self.dollar_quoted_string();
@@ -30,7 +30,7 @@ impl<'a, T: Text> Cursor<'a, T> {
 
     /// Whether a tag and a `$` follow: the tag is empty or an identifier without `$`.
     fn is_dollar_quote_start(&self) -> bool
-        ensures { result ≡ opens_dollar (rest T.Text.bytes self.now) }
+        ensures { result ≡ opens_dollar (rest T.bytes self.now) }
     {
         if self.first() == '$' {
             return true;
@@ -42,10 +42,10 @@ impl<'a, T: Text> Cursor<'a, T> {
     /// there is one.
     fn dollar_quoted_string(&mut self) -> bool
         requires first { self.old.place ≡ self.old.start + 1 }
-        requires sign { slice_index (T.Text.bytes self.old.text.now) self.old.start ≡ 36 }
-        requires opens { opens_dollar (rest T.Text.bytes self.old) ≡ true }
-        ensures closed { result ≡ dollar_closed (rest T.Text.bytes self.old) }
-        ensures moved { Moved self.old self.new (dollar_quoted (rest T.Text.bytes self.old)) }
+        requires sign { slice_index (T.bytes self.old.text.now) self.old.start ≡ 36 }
+        requires opens { opens_dollar (rest T.bytes self.old) ≡ true }
+        ensures closed { result ≡ dollar_closed (rest T.bytes self.old) }
+        ensures moved { Moved self.old self.new (dollar_quoted (rest T.bytes self.old)) }
     {
         let opener = self.place() - 1;
         self.eat_while(&TagCont);
@@ -58,8 +58,8 @@ impl<'a, T: Text> Cursor<'a, T> {
     /// The digits of a parameter, and its junk.
     fn positional_param(&mut self) -> TokenKind
         requires { self.old.start ≤ self.old.place }
-        ensures kind { result ≡ TokenKind.PositionalParam (self.old.place - self.old.start + run decimal (rest T.Text.bytes self.old)) }
-        ensures moved { Moved self.old self.new (parameter (rest T.Text.bytes self.old)) }
+        ensures kind { result ≡ TokenKind.PositionalParam (self.old.place - self.old.start + run decimal (rest T.bytes self.old)) }
+        ensures moved { Moved self.old self.new (parameter (rest T.bytes self.old)) }
     {
         self.eat_while(&DecimalDigit);
         let trailing_junk_start = self.pos_within_token();
@@ -75,9 +75,9 @@ impl<'a, T: Text> Cursor<'a, T> {
 /// next `$`: all of them together go over the text twice at most.
 fn dollar_end<T: Text>(text: &T, opener: u32, len: u32) -> (u32, bool)
     requires some { 0 < len }
-    requires within { opener + len ≤ length (T.Text.bytes text.now) }
-    ensures end { result.0 ≡ opener + len + delimited (take len (drop opener (T.Text.bytes text.now))) (drop (opener + len) (T.Text.bytes text.now)) }
-    ensures closed { result.1 ≡ delimited_closed (take len (drop opener (T.Text.bytes text.now))) (drop (opener + len) (T.Text.bytes text.now)) }
+    requires within { opener + len ≤ length (T.bytes text.now) }
+    ensures end { result.0 ≡ opener + len + delimited (take len (drop opener (T.bytes text.now))) (drop (opener + len) (T.bytes text.now)) }
+    ensures closed { result.1 ≡ delimited_closed (take len (drop opener (T.bytes text.now))) (drop (opener + len) (T.bytes text.now)) }
 {
     let mut end = opener + len;
     while end < text.len() {
@@ -91,9 +91,9 @@ fn dollar_end<T: Text>(text: &T, opener: u32, len: u32) -> (u32, bool)
 
 /// Whether the bytes at a place repeat those of a range before it.
 fn repeats<T: Text>(text: &T, from: u32, len: u32, place: u32) -> bool
-    requires within { from + len ≤ length (T.Text.bytes text.now) }
-    requires inside { place ≤ length (T.Text.bytes text.now) }
-    ensures { result ≡ begins (take len (drop from (T.Text.bytes text.now))) (drop place (T.Text.bytes text.now)) }
+    requires within { from + len ≤ length (T.bytes text.now) }
+    requires inside { place ≤ length (T.bytes text.now) }
+    ensures { result ≡ begins (take len (drop from (T.bytes text.now))) (drop place (T.bytes text.now)) }
 {
     if text.len() - place < len {
         return false;

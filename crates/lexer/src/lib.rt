@@ -1,4 +1,5 @@
 //! The lexer: from a text to its tokens.
+#![tactic(auto)]
 
 mod advance;
 mod class;

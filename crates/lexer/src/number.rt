@@ -5,7 +5,7 @@ ghost use Rattle.lexer.specs.Cursor.{Moved, rest};
 ghost use Rattle.lexer.specs.Number.{after_digits, after_digits_len, base_of, based, based_len, decimal_len, decimal_number, empty_exponent, exponent, exponent_digits, exponent_mark, exponent_tail, fractional, fractional_len, number, number_len, numeric, numeric_len, sign};
 ghost use Rattle.lexer.specs.Class.{decimal};
 
-use crate::class::DigitClass;
+use crate::class::{DecimalDigit, DigitClass, HexDigit};
 use crate::cursor::Cursor;
 use crate::token::{Base, LiteralKind};
 use text::Text;
@@ -14,21 +14,21 @@ impl<'a, T: Text> Cursor<'a, T> {
     /// Goes on after the first digit of a number.
     pub(crate) fn number(&mut self, first_digit: char) -> LiteralKind
         requires { self.old.start ≤ self.old.place }
-        ensures kind { result ≡ number first_digit (self.old.place - self.old.start) (rest T.Text.bytes self.old) }
-        ensures moved { Moved self.old self.new (number_len first_digit (rest T.Text.bytes self.old)) }
+        ensures kind { result ≡ number first_digit (self.old.place - self.old.start) (rest T.bytes self.old) }
+        ensures moved { Moved self.old self.new (number_len first_digit (rest T.bytes self.old)) }
     {
         match base_of(first_digit, self.first()) {
             Base::Binary => {
                 self.bump();
-                self.based_int::<crate::class::DecimalDigit>(Base::Binary)
+                self.based_int::<DecimalDigit>(Base::Binary)
             }
             Base::Octal => {
                 self.bump();
-                self.based_int::<crate::class::DecimalDigit>(Base::Octal)
+                self.based_int::<DecimalDigit>(Base::Octal)
             }
             Base::Hexadecimal => {
                 self.bump();
-                self.based_int::<crate::class::HexDigit>(Base::Hexadecimal)
+                self.based_int::<HexDigit>(Base::Hexadecimal)
             }
             Base::Decimal => self.decimal_number(),
         }
@@ -37,8 +37,8 @@ impl<'a, T: Text> Cursor<'a, T> {
     /// Goes on after the prefix of a base: the digits and the junk.
     fn based_int<C: DigitClass>(&mut self, base: Base) -> LiteralKind
         requires { self.old.start ≤ self.old.place }
-        ensures kind { result ≡ based base C.DigitClass.digit (self.old.place - self.old.start) (rest T.Text.bytes self.old) }
-        ensures moved { Moved self.old self.new (based_len C.DigitClass.digit (rest T.Text.bytes self.old)) }
+        ensures kind { result ≡ based base C.digit (self.old.place - self.old.start) (rest T.bytes self.old) }
+        ensures moved { Moved self.old self.new (based_len C.digit (rest T.bytes self.old)) }
     {
         let has_digits = self.eat_digits::<C>();
         let trailing_junk_start = self.pos_within_token();
@@ -54,18 +54,18 @@ impl<'a, T: Text> Cursor<'a, T> {
     /// The digits after the first, and what follows them.
     fn decimal_number(&mut self) -> LiteralKind
         requires { self.old.start ≤ self.old.place }
-        ensures kind { result ≡ decimal_number (self.old.place - self.old.start) (rest T.Text.bytes self.old) }
-        ensures moved { Moved self.old self.new (decimal_len (rest T.Text.bytes self.old)) }
+        ensures kind { result ≡ decimal_number (self.old.place - self.old.start) (rest T.bytes self.old) }
+        ensures moved { Moved self.old self.new (decimal_len (rest T.bytes self.old)) }
     {
-        self.eat_digits::<crate::class::DecimalDigit>();
+        self.eat_digits::<DecimalDigit>();
         self.after_digits()
     }
 
     /// What follows the digits before a point: the point and the rest, an exponent, or junk.
     fn after_digits(&mut self) -> LiteralKind
         requires { self.old.start ≤ self.old.place }
-        ensures kind { result ≡ after_digits (self.old.place - self.old.start) (rest T.Text.bytes self.old) }
-        ensures moved { Moved self.old self.new (after_digits_len (rest T.Text.bytes self.old)) }
+        ensures kind { result ≡ after_digits (self.old.place - self.old.start) (rest T.bytes self.old) }
+        ensures moved { Moved self.old self.new (after_digits_len (rest T.bytes self.old)) }
     {
         if is_point(self.first(), self.second()) {
             self.bump();
@@ -86,11 +86,11 @@ impl<'a, T: Text> Cursor<'a, T> {
     /// Goes on after the point of a number.
     pub(crate) fn eat_fractional(&mut self) -> LiteralKind
         requires { self.old.start ≤ self.old.place }
-        ensures kind { result ≡ fractional (self.old.place - self.old.start) (rest T.Text.bytes self.old) }
-        ensures moved { Moved self.old self.new (fractional_len (rest T.Text.bytes self.old)) }
+        ensures kind { result ≡ fractional (self.old.place - self.old.start) (rest T.bytes self.old) }
+        ensures moved { Moved self.old self.new (fractional_len (rest T.bytes self.old)) }
     {
         if is_digit(self.first()) {
-            self.eat_digits::<crate::class::DecimalDigit>();
+            self.eat_digits::<DecimalDigit>();
         }
         self.eat_numeric()
     }
@@ -98,8 +98,8 @@ impl<'a, T: Text> Cursor<'a, T> {
     /// The exponent, if there is one, and the junk of a number that has a point or an exponent.
     fn eat_numeric(&mut self) -> LiteralKind
         requires { self.old.start ≤ self.old.place }
-        ensures kind { result ≡ numeric (self.old.place - self.old.start) (rest T.Text.bytes self.old) }
-        ensures moved { Moved self.old self.new (numeric_len (rest T.Text.bytes self.old)) }
+        ensures kind { result ≡ numeric (self.old.place - self.old.start) (rest T.bytes self.old) }
+        ensures moved { Moved self.old self.new (numeric_len (rest T.bytes self.old)) }
     {
         let empty_exponent_start = self.eat_exponent();
         let trailing_junk_start = self.pos_within_token();
@@ -113,8 +113,8 @@ impl<'a, T: Text> Cursor<'a, T> {
     /// Eats an exponent, if there is one, and says where it begins if it has no digits.
     fn eat_exponent(&mut self) -> Option<u32>
         requires { self.old.start ≤ self.old.place }
-        ensures value { result ≡ empty_exponent (self.old.place - self.old.start) (rest T.Text.bytes self.old) }
-        ensures moved { Moved self.old self.new (exponent (rest T.Text.bytes self.old)) }
+        ensures value { result ≡ empty_exponent (self.old.place - self.old.start) (rest T.bytes self.old) }
+        ensures moved { Moved self.old self.new (exponent (rest T.bytes self.old)) }
     {
         if !is_exponent_mark(self.first()) {
             return None;
@@ -130,8 +130,8 @@ impl<'a, T: Text> Cursor<'a, T> {
 
     /// Goes on after the `e` of an exponent, and says whether there are digits. A sign is eaten only before one.
     fn eat_numeric_exponent(&mut self) -> bool
-        ensures digits { result ≡ exponent_digits (rest T.Text.bytes self.old) }
-        ensures moved { Moved self.old self.new (exponent_tail (rest T.Text.bytes self.old)) }
+        ensures digits { result ≡ exponent_digits (rest T.bytes self.old) }
+        ensures moved { Moved self.old self.new (exponent_tail (rest T.bytes self.old)) }
     {
         if !self.exponent_has_digits() {
             return false;
@@ -139,12 +139,12 @@ impl<'a, T: Text> Cursor<'a, T> {
         if is_sign(self.first()) {
             self.bump();
         }
-        self.eat_digits::<crate::class::DecimalDigit>();
+        self.eat_digits::<DecimalDigit>();
         true
     }
 
     fn exponent_has_digits(&self) -> bool
-        ensures { result ≡ exponent_digits (rest T.Text.bytes self.now) }
+        ensures { result ≡ exponent_digits (rest T.bytes self.now) }
     {
         if is_sign(self.first()) {
             is_digit(self.second())

@@ -28,8 +28,8 @@ pub(crate) struct Command {
 impl<'a, T: Text> Cursor<'a, T> {
     /// Goes on after a backslash.
     pub(crate) fn psql_command(&mut self) -> TokenKind
-        ensures kind { result ≡ psql_kind (rest T.Text.bytes self.old) }
-        ensures moved { Moved self.old self.new (psql_len (rest T.Text.bytes self.old)) }
+        ensures kind { result ≡ psql_kind (rest T.bytes self.old) }
+        ensures moved { Moved self.old self.new (psql_len (rest T.bytes self.old)) }
     {
         match self.first() {
             '\\' => {
@@ -50,8 +50,8 @@ impl<'a, T: Text> Cursor<'a, T> {
 
     /// Eats a command word and what belongs to it.
     fn psql_word(&mut self) -> TokenKind
-        ensures kind { result ≡ TokenKind.PsqlCommand (command (rest T.Text.bytes self.old)).ends_query }
-        ensures moved { Moved self.old self.new (command_len (rest T.Text.bytes self.old)) }
+        ensures kind { result ≡ TokenKind.PsqlCommand (command (rest T.bytes self.old)).ends_query }
+        ensures moved { Moved self.old self.new (command_len (rest T.bytes self.old)) }
     {
         let place = self.place();
         self.eat_while(&CommandLetter);
@@ -65,7 +65,7 @@ impl<'a, T: Text> Cursor<'a, T> {
 
     /// Eats what stands before a pipe, where the word takes one: blanks, then options.
     fn eat_before_pipe(&mut self, command: Command)
-        ensures { Moved self.old self.new (before_pipe command (rest T.Text.bytes self.old)) }
+        ensures { Moved self.old self.new (before_pipe command (rest T.bytes self.old)) }
     {
         if command.takes_pipe {
             self.eat_while(&LineBlank);
@@ -75,7 +75,7 @@ impl<'a, T: Text> Cursor<'a, T> {
 
     /// Eats the rest of the line, or the arguments, which end at a backslash outside quotes too.
     fn eat_what_follows(&mut self, command: Command)
-        ensures { Moved self.old self.new (what_follows command (rest T.Text.bytes self.old)) }
+        ensures { Moved self.old self.new (what_follows command (rest T.bytes self.old)) }
     {
         if command.reads_line || command.takes_pipe && self.first() == '|' {
             self.eat_until2(b'\n', b'\r');
@@ -86,7 +86,7 @@ impl<'a, T: Text> Cursor<'a, T> {
 
     /// Eats options in parentheses, where the word takes them.
     fn eat_options(&mut self, command: Command)
-        ensures { Moved self.old self.new (opened_options command (rest T.Text.bytes self.old)) }
+        ensures { Moved self.old self.new (opened_options command (rest T.bytes self.old)) }
     {
         if command.takes_options && self.first() == '(' {
             let end = options_end(self.text(), self.place());
@@ -96,7 +96,7 @@ impl<'a, T: Text> Cursor<'a, T> {
 
     /// Eats the arguments, with the blanks between them.
     fn eat_arguments(&mut self)
-        ensures { Moved self.old self.new (arguments Outside (rest T.Text.bytes self.old)) }
+        ensures { Moved self.old self.new (arguments Outside (rest T.bytes self.old)) }
     {
         let end = arguments_end(self.text(), self.place());
         self.move_to(end);
@@ -141,8 +141,8 @@ const READS_LINE_IN_ANY_CASE: [&[u8]; 1] = [b"copy"];
 
 /// What the word of so many bytes from the place on does.
 fn command_of<T: Text>(text: &T, place: u32, len: u32) -> Command
-    requires { len ≤ length (T.Text.bytes text.now) - place }
-    ensures { result ≡ meaning (take len (drop place (T.Text.bytes text.now))) }
+    requires { len ≤ length (T.bytes text.now) - place }
+    ensures { result ≡ meaning (take len (drop place (T.bytes text.now))) }
 {
     Command {
         ends_query: is_one_of(text, place, len, false, &ENDS_QUERY),
@@ -155,8 +155,8 @@ fn command_of<T: Text>(text: &T, place: u32, len: u32) -> Command
 
 /// Whether the bytes from the place on, so many, are one of the words.
 fn is_one_of<T: Text>(text: &T, place: u32, len: u32, any_case: bool, words: &[&[u8]]) -> bool
-    requires { len ≤ length (T.Text.bytes text.now) - place }
-    ensures { result ≡ listed (fold any_case) (map (λ w. w.now) words.now) (take len (drop place (T.Text.bytes text.now))) }
+    requires { len ≤ length (T.bytes text.now) - place }
+    ensures { result ≡ listed (fold any_case) (map (λ w. w.now) words.now) (take len (drop place (T.bytes text.now))) }
 {
     for word in words {
         if is_word(text, place, len, any_case, word) {
@@ -168,8 +168,8 @@ fn is_one_of<T: Text>(text: &T, place: u32, len: u32, any_case: bool, words: &[&
 
 /// Whether these bytes are the word.
 fn is_word<T: Text>(text: &T, place: u32, len: u32, any_case: bool, word: &[u8]) -> bool
-    requires { len ≤ length (T.Text.bytes text.now) - place }
-    ensures { result ≡ spelt (fold any_case) word.now (take len (drop place (T.Text.bytes text.now))) }
+    requires { len ≤ length (T.bytes text.now) - place }
+    ensures { result ≡ spelt (fold any_case) word.now (take len (drop place (T.bytes text.now))) }
 {
     if word.len() != len as usize {
         return false;

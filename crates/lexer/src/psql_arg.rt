@@ -181,7 +181,7 @@ fn hex_value(digit: u8) -> u8
 
 /// Where the arguments end that begin at the place.
 pub(crate) fn arguments_end<T: Text>(text: &T, place: u32) -> u32
-    ensures { result ≡ place + arguments ArgState.Outside (drop place (T.Text.bytes text.now)) }
+    ensures { result ≡ place + arguments ArgState.Outside (drop place (T.bytes text.now)) }
 {
     let mut state = ArgState::Outside;
     let mut end = place;
@@ -198,7 +198,7 @@ pub(crate) fn arguments_end<T: Text>(text: &T, place: u32) -> u32
 /// Where the options of `\g (` end that begin at the place: with the blanks after the first argument whose value ends with
 /// a parenthesis, or with the arguments.
 pub(crate) fn options_end<T: Text>(text: &T, place: u32) -> u32
-    ensures { result ≡ place + options ArgState.Outside 0 (drop place (T.Text.bytes text.now)) }
+    ensures { result ≡ place + options ArgState.Outside 0 (drop place (T.bytes text.now)) }
 {
     let mut end = place;
     'options: loop {
@@ -228,7 +228,7 @@ pub(crate) fn options_end<T: Text>(text: &T, place: u32) -> u32
 
 /// Where the blanks end that stand at the place.
 fn blanks_end<T: Text>(text: &T, place: u32) -> u32
-    ensures { result ≡ place + run line_blank (drop place (T.Text.bytes text.now)) }
+    ensures { result ≡ place + run line_blank (drop place (T.bytes text.now)) }
 {
     let mut cursor = Cursor::new(text, place);
     cursor.eat_while(&LineBlank);

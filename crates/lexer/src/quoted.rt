@@ -47,9 +47,9 @@ impl Prefix {
 impl<'a, T: Text> Cursor<'a, T> {
     /// Goes on after the prefix: the quote, and the string that it opens.
     pub(crate) fn prefixed_string(&mut self, prefix: Prefix) -> TokenKind
-        requires { peek 0 (rest T.Text.bytes self.old) ≡ 39 }
-        ensures kind { result ≡ TokenKind.Literal (prefix_literal prefix (quoted_closed 39 (has_escapes prefix) (drop 1 (rest T.Text.bytes self.old)))) }
-        ensures moved { Moved self.old self.new (1 + quoted 39 (has_escapes prefix) (drop 1 (rest T.Text.bytes self.old))) }
+        requires { peek 0 (rest T.bytes self.old) ≡ 39 }
+        ensures kind { result ≡ TokenKind.Literal (prefix_literal prefix (quoted_closed 39 (has_escapes prefix) (drop 1 (rest T.bytes self.old)))) }
+        ensures moved { Moved self.old self.new (1 + quoted 39 (has_escapes prefix) (drop 1 (rest T.bytes self.old))) }
     {
         self.bump();
         let terminated = self.single_quoted_string(prefix.backslash_escapes());
@@ -60,8 +60,8 @@ impl<'a, T: Text> Cursor<'a, T> {
 
     /// Goes on after a `'`. Says whether the string is terminated.
     pub(crate) fn single_quoted_string(&mut self, backslash_escapes: bool) -> bool
-        ensures closed { result ≡ quoted_closed 39 backslash_escapes (rest T.Text.bytes self.old) }
-        ensures moved { Moved self.old self.new (quoted 39 backslash_escapes (rest T.Text.bytes self.old)) }
+        ensures closed { result ≡ quoted_closed 39 backslash_escapes (rest T.bytes self.old) }
+        ensures moved { Moved self.old self.new (quoted 39 backslash_escapes (rest T.bytes self.old)) }
     {
         let (end, terminated) = quoted_end(self.text(), self.place(), b'\'', backslash_escapes);
         self.move_to(end);
@@ -70,8 +70,8 @@ impl<'a, T: Text> Cursor<'a, T> {
 
     /// Goes on after a `"`. Says whether the name is terminated.
     pub(crate) fn double_quoted_string(&mut self) -> bool
-        ensures closed { result ≡ quoted_closed 34 false (rest T.Text.bytes self.old) }
-        ensures moved { Moved self.old self.new (quoted 34 false (rest T.Text.bytes self.old)) }
+        ensures closed { result ≡ quoted_closed 34 false (rest T.bytes self.old) }
+        ensures moved { Moved self.old self.new (quoted 34 false (rest T.bytes self.old)) }
     {
         let (end, terminated) = quoted_end(self.text(), self.place(), b'"', false);
         self.move_to(end);
@@ -83,8 +83,8 @@ impl<'a, T: Text> Cursor<'a, T> {
 /// is closed. A doubled quote is part of the body, and where there are escapes a backslash takes the next character.
 fn quoted_end<T: Text>(text: &T, place: u32, quote: u8, escapes: bool) -> (u32, bool)
     requires { 0 < quote }
-    ensures end { result.0 ≡ place + quoted quote escapes (drop place (T.Text.bytes text.now)) }
-    ensures closed { result.1 ≡ quoted_closed quote escapes (drop place (T.Text.bytes text.now)) }
+    ensures end { result.0 ≡ place + quoted quote escapes (drop place (T.bytes text.now)) }
+    ensures closed { result.1 ≡ quoted_closed quote escapes (drop place (T.bytes text.now)) }
 {
     let mut end = place;
     while let Some(byte) = text.byte(end) {

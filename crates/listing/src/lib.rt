@@ -1,4 +1,5 @@
 //! The program's lines, from a text.
+#![tactic(auto)]
 
 mod fault;
 mod kinds;
@@ -28,7 +29,7 @@ pub struct Listing {
 
 /// Writes a line after those that are there.
 fn push<D: Display + Drop>(lines: &mut String, line: D) -> Result<(), AllocError>
-    ensures { OnOk result (IfSome (D.Display.output line) (λ bs. string_bytes lines.new ≡ string_bytes lines.old ++ bs)) }
+    ensures { OnOk result (IfSome (D.output line) (λ bs. string_bytes lines.new ≡ string_bytes lines.old ++ bs)) }
 {
     match lines.write(line) {
         Ok(()) => Ok(()),
@@ -78,7 +79,7 @@ fn list_token(
 
 /// The lines of a fit text.
 fn list_tokens<T: Text>(heap: Global, text: &T) -> Result<Listing, AllocError>
-    ensures { IfOk result (Lists (T.Text.bytes text.now)) }
+    ensures { IfOk result (Lists (T.bytes text.now)) }
 {
     let size = text.len();
     let mut lines = String::new(heap);
@@ -95,7 +96,7 @@ fn list_tokens<T: Text>(heap: Global, text: &T) -> Result<Listing, AllocError>
 
 /// Whether a text is fit to be read, or why it is refused.
 fn admit_text<T: Text>(text: &T) -> Result<(), ProgramFault>
-    ensures { result ≡ in_text (checked (T.Text.bytes text.now)) }
+    ensures { result ≡ in_text (checked (T.bytes text.now)) }
 {
     check(text)?;
     Ok(())
@@ -113,7 +114,7 @@ fn admit(input: &[u8]) -> Result<(), ProgramFault>
 
 /// The listing of any text: its lines, or its refusal if it is not fit to be read.
 pub fn list_text<T: Text>(heap: Global, text: &T) -> Result<Listing, AllocError>
-    ensures { IfOk result (Answers (T.Text.bytes text.now) (in_text (checked (T.Text.bytes text.now)))) }
+    ensures { IfOk result (Answers (T.bytes text.now) (in_text (checked (T.bytes text.now)))) }
 {
     match admit_text(text) {
         Ok(()) => list_tokens(heap, text),

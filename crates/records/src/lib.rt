@@ -1,6 +1,7 @@
 //! The recorded list: texts, and the listing that is expected of each.
 //!
 //! A record is a line with the text's bytes in lower-case hexadecimal digits, the lines of its listing, and an empty line.
+#![tactic(auto)]
 
 mod hex;
 mod record;
@@ -16,7 +17,7 @@ mod tests {
     #[test]
     fn digits_come_in_pairs(rt: HostRuntime) -> Result<(), Fail> {
         let bytes = decode(rt.alloc(), b"00ff7a")?.ok_or("pairs of digits")?;
-        assert!(rt; bytes.as_slice() == &[0, 255, 122]);
+        assert!(rt; bytes.as_slice() == [0, 255, 122].as_slice());
         assert!(rt;
             decode(rt.alloc(), b"00f")?.is_none(),
             "a digit is left over"
@@ -31,11 +32,11 @@ mod tests {
     #[test]
     fn a_record_ends_at_an_empty_line(rt: HostRuntime) -> Result<(), Fail> {
         let record = next_record(b"61\none\ntwo\n\n\nthree\n\n").ok_or("a record")?;
-        assert!(rt; record.digits == b"61");
-        assert!(rt; record.listing == b"one\ntwo\n");
+        assert!(rt; record.digits == b"61".as_slice());
+        assert!(rt; record.listing == b"one\ntwo\n".as_slice());
         let record = next_record(record.rest).ok_or("a record of the empty text")?;
         assert!(rt; record.digits.is_empty());
-        assert!(rt; record.listing == b"three\n");
+        assert!(rt; record.listing == b"three\n".as_slice());
         assert!(rt; record.rest.is_empty());
         Ok(())
     }

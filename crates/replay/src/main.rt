@@ -1,4 +1,5 @@
 //! Lists every recorded text and compares the listing with the recorded one.
+#![tactic(auto)]
 
 ghost use Rattle.std.specs.Prelude.{◌≡◌, ℕ, List, IfOk, Some};
 ghost use Rattle.listing.specs.Listed.{Answers, admitted};

@@ -1,4 +1,5 @@
 //! What ends a statement.
+#![tactic(auto)]
 
 ghost use Rattle.std.specs.Prelude.{◌≡◌, ℕ, take};
 ghost use Rattle.statement.specs.Causes.{cause_number};

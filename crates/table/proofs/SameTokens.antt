@@ -1,5 +1,5 @@
 -- Tokens are equal exactly where `same` says so: a kind is read back from its parts.
-use Rattle.std.proofs.Common.{◌≡◌, ℕ, Bool, true, false, cond, eqb, Some, None, Decides, Option, sym, refl, ap, ◌∙◌, subst}
+use Rattle.std.proofs.Common.{◌≡◌, ℕ, Bool, true, false, cond, ◌&&◌, eqb, Some, None, Decides, Option, sym, refl, ap, ◌∙◌, subst}
 use Rattle.lexer.specs.declared.token.Base.TheVariants.{Binary, Octal, Decimal, Hexadecimal}
 use Rattle.lexer.specs.declared.token.Base.{Base}
 use Rattle.lexer.specs.declared.token.LiteralKind.TheVariants.{Int, Numeric, Str, NationalStr, ByteStr, BitStr, DollarQuotedString, UnicodeEscStr, EscStr}
@@ -8,6 +8,8 @@ use Rattle.lexer.specs.declared.token.Token.{Token}
 use Rattle.lexer.specs.declared.token.TokenKind.TheVariants.{Unknown, Literal, Whitespace, Ident, PsqlCommand, Semi, Eof, Slash, LineComment, BlockComment, Minus, Colon, Dot, DotDot, Eq, Gt, And, Lt, Bang, Plus, Tilde, Pound, Question, Or, Percent, Caret, Star, Backtick, At, CloseBracket, OpenBracket, CloseCurly, OpenCurly, CloseParen, OpenParen, Comma, PositionalParam, QuotedIdent}
 use Rattle.lexer.specs.declared.token.TokenKind.{TokenKind}
 use Rattle.std.proofs.lemmas.Bool.{and_from, and_parts, eq-eqb, eqb-true, false≢true}
+use Rattle.std.specs.Bool.{beq}
+use Rattle.std.specs.Option.{option_eq}
 use Rattle.table.specs.Same.{kind_parts, parts, same, same_flag, same_parts, same_start}
 use Rattle.table.specs.declared.same.Parts.{Parts}
 
@@ -53,6 +55,28 @@ parts_itself a =
     (and_from _ _ (flag_itself a.uescape)
     (and_from _ _ (numbers a.base)
     (and_from _ _ (start_itself a.empty_exponent_start) (numbers a.trailing_junk_start)))))
+
+-- the `==` that is derived for parts is `same_parts`
+flags_alike : (a b : Bool) → beq a b ≡ same_flag a b
+flags_alike true true = refl
+flags_alike true false = refl
+flags_alike false true = refl
+flags_alike false false = refl
+
+starts_alike : (a b : Option ℕ) → option_eq eqb a b ≡ same_start a b
+starts_alike None None = refl
+starts_alike None (Some b) = refl
+starts_alike (Some a) None = refl
+starts_alike (Some a) (Some b) = refl
+
+derived_parts : (a b : Parts) → (eqb a.number b.number && (beq a.flag b.flag && (beq a.uescape b.uescape && (eqb a.base b.base && (option_eq eqb a.empty_exponent_start b.empty_exponent_start && eqb a.trailing_junk_start b.trailing_junk_start))))) ≡ same_parts a b
+derived_parts a b = simp (flags_alike, starts_alike)
+
+pub parts_decided : (a b : Parts) (r : Bool) → r ≡ (eqb a.number b.number && (beq a.flag b.flag && (beq a.uescape b.uescape && (eqb a.base b.base && (option_eq eqb a.empty_exponent_start b.empty_exponent_start && eqb a.trailing_junk_start b.trailing_junk_start))))) → Decides r (a ≡ b)
+parts_decided a b r e = (
+  (λ h. parts_equal a b (sym (derived_parts a b) ∙ sym e ∙ h)),
+  (λ q. e ∙ derived_parts a b ∙ ap (same_parts a) (sym q) ∙ parts_itself a),
+)
 
 -- the base, the literal and the kind that parts stand for
 abbrev base_of : ℕ → Base

@@ -14,7 +14,7 @@ use text::{Text, TextFault, check};
 /// The first index where a list of tokens and the cut of a text part. Every token has a byte, so that an index met in
 /// the text is no more than a place.
 fn parting<T: Text>(text: &T, tokens: &[Token]) -> Option<u32>
-    ensures { result ≡ parting (cut (T.Text.bytes text.now)) tokens.now }
+    ensures { result ≡ parting (cut (T.bytes text.now)) tokens.now }
 {
     let mut place: u32 = 0;
     let mut index: u32 = 0;
@@ -37,8 +37,8 @@ fn parting<T: Text>(text: &T, tokens: &[Token]) -> Option<u32>
 /// None where a list of tokens is the cut of a text, and else the first index where they part, a missing entry on
 /// either side included.
 pub fn check_tokens<T: Text>(text: &T, tokens: &[Token]) -> Result<Option<u32>, TextFault>
-    ensures value { result ≡ if_fit (λ fault. fault) (checked (T.Text.bytes text.now)) (Ok (parting (cut (T.Text.bytes text.now)) tokens.now)) }
-    ensures tells { IfOk result (Tells (cut (T.Text.bytes text.now)) tokens.now) }
+    ensures value { result ≡ if_fit (λ fault. fault) (checked (T.bytes text.now)) (Ok (parting (cut (T.bytes text.now)) tokens.now)) }
+    ensures tells { IfOk result (Tells (cut (T.bytes text.now)) tokens.now) }
 {
     check(text)?;
     Ok(parting(text, tokens))

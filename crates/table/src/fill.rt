@@ -11,7 +11,7 @@ use text::{Text, check};
 
 /// How many tokens a text has.
 fn count_tokens<T: Text>(text: &T) -> u32
-    ensures { result ≡ length (cut (T.Text.bytes text.now)) }
+    ensures { result ≡ length (cut (T.bytes text.now)) }
 {
     let mut place: u32 = 0;
     let mut count: u32 = 0;
@@ -24,8 +24,8 @@ fn count_tokens<T: Text>(text: &T) -> u32
 
 /// Writes the tokens of a text into the first entries of a table that has room for them.
 fn write_tokens<T: Text>(text: &T, table: &mut [Token])
-    requires { length (cut (T.Text.bytes text.now)) ≤ length table.old }
-    ensures { table.new ≡ cut (T.Text.bytes text.now) ++ drop (length (cut (T.Text.bytes text.now))) table.old }
+    requires { length (cut (T.bytes text.now)) ≤ length table.old }
+    ensures { table.new ≡ cut (T.bytes text.now) ++ drop (length (cut (T.bytes text.now))) table.old }
 {
     let mut place: u32 = 0;
     let mut index: usize = 0;
@@ -39,8 +39,8 @@ fn write_tokens<T: Text>(text: &T, table: &mut [Token])
 /// Writes the cut of a text into the first entries of a table, leaves the later ones untouched and answers the token
 /// count. The tokens are counted before any is written, so that on a fault the table is as it was.
 pub fn fill_table<T: Text>(text: &T, table: &mut [Token]) -> Result<u32, TableFault>
-    ensures answer { result ≡ fill_answer (T.Text.bytes text.now) table.old }
-    ensures after { table.new ≡ filled result (cut (T.Text.bytes text.now)) table.old }
+    ensures answer { result ≡ fill_answer (T.bytes text.now) table.old }
+    ensures after { table.new ≡ filled result (cut (T.bytes text.now)) table.old }
 {
     check(text)?;
     let tokens = count_tokens(text);

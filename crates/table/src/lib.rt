@@ -1,4 +1,5 @@
 //! Tokens in tables: the cut of a text written into one, and a list of tokens held against the cut.
+#![tactic(auto)]
 
 mod checker;
 mod fault;

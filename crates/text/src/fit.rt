@@ -8,8 +8,8 @@ use crate::{LONGEST, Text, TextFault, Utf8Checker};
 /// The first fault of a text, in one pass. The length is looked at first: a text that is too long is not looked
 /// into.
 pub fn check<T: Text>(text: &T) -> Result<(), TextFault>
-    ensures value { result ≡ checked (bytes text.now) }
-    ensures characters { Tells (bytes text.now) result }
+    ensures value { result ≡ checked (T.bytes text.now) }
+    ensures characters { Tells (T.bytes text.now) result }
     ensures table { TableIsUtf8 }
 {
     if text.len() > LONGEST {

@@ -1,4 +1,5 @@
 //! Texts: finite sequences of bytes that can be asked for their length and for the byte at a place.
+#![tactic(auto)]
 
 mod fault;
 mod fit;

@@ -8,6 +8,6 @@ returns-in-Ok c =
     inr record {
       listing = c.in-Ok.listing;
       listed = c.in-Ok.ensures;
-      answered = c.len.ensures ∙ sym c.as-bytes.ensures.len ∙ ap length c.as-bytes.ensures.value;
-      handed = c.fill-front.ensures ∙ ap (λ bytes. filled bytes c.args.out.now) c.as-bytes.ensures.value;
+      answered = c.len.ensures ∙ sym c.as_bytes.ensures.len ∙ ap length c.as_bytes.ensures.value;
+      handed = c.fill_front.ensures ∙ ap (λ bytes. filled bytes c.args.out.now) c.as_bytes.ensures.value;
     }

@@ -8,6 +8,6 @@ pub returns : goal.returns
 returns c =
     let input = c.args.input.now in
     let short = c.if-input.false in
-    c.admit-text.ensures
+    c.admit_text.ensures
     ∙ ap (λ l. in_text (checked l)) (c.new.ensures.bytes ∙ clip_all input short)
     ∙ sym (admitted_short input short)

@@ -14,13 +14,13 @@ loop-token-preserved g c =
     let w = c.loop-token.walk in
     let t = c.in-Some.token in
     let end = end_there size w t in
-    let onward = c.in-ok-list-token.ensures.walk in
+    let onward = c.in_ok-list_token.ensures.walk in
     let inv = c.loop-token.invariant in
     let there = c.in-Some.ensures.inside in (
       inv.0,
       omega (arith, there.1, ap (λ u. u.place) onward, place-past w t end, inv.0),
       subst Within (sym onward) (within_past w t end there.0 inv.2),
-      walking_more bs size w (string_bytes c.loop-token.lines) inv.3 c.list-token.new.walk (string_bytes c.list-token.new.lines) t (sym c.in-Some.ensures.value) there.0 onward c.in-ok-list-token.ensures.lines,
+      walking_more bs size w (string_bytes c.loop-token.lines) inv.3 c.list_token.new.walk (string_bytes c.list_token.new.lines) t (sym c.in-Some.ensures.value) there.0 onward c.in_ok-list_token.ensures.lines,
     )
 
 pub loop-token-smaller : goal.loop-token-smaller
@@ -30,7 +30,7 @@ loop-token-smaller g c =
     let end = end_there c.len-size.result w t in
     let there = c.in-Some.ensures.inside in
     let inv = c.loop-token.invariant in
-    omega (arith, there.0, there.1, ap (λ u. u.place) c.in-ok-list-token.ensures.walk, place-past w t end, inv.0)
+    omega (arith, there.0, there.1, ap (λ u. u.place) c.in_ok-list_token.ensures.walk, place-past w t end, inv.0)
 
 pub returns : goal.returns
 returns g c =
@@ -40,8 +40,8 @@ returns g c =
     let inv = c.loop-token.invariant in
     let out = string_bytes c.loop-token.lines in
     let so : Walking bs size w out = subst (λ n. Walking bs n w out) inv.0 inv.3 in
-    let cover = walking_cover bs size w out so (omega (arith, inv.0, inv.1, c.in-default.ensures.inside)) in
+    let cover = walking_cover bs size w out so (omega (arith, inv.0, inv.1, c.in_default.ensures.inside)) in
     record {
       refused = refl;
-      lines = walking_all bs size w out so (string_bytes c.push.new.lines) (c.in-ok-push.ensures ∙ ap (λ l. out ++ total_bytes l) c.total_line.ensures) ∙ walk_lists size so.tokens cover so.none_empty ∙ ap listed (reads_all bs so.tokens so.reads cover);
+      lines = walking_all bs size w out so (string_bytes c.push.new.lines) (c.in_ok-push.ensures ∙ ap (λ l. out ++ total_bytes l) c.total_line.ensures) ∙ walk_lists size so.tokens cover so.none_empty ∙ ap listed (reads_all bs so.tokens so.reads cover);
     }

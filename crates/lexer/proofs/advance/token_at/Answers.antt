@@ -8,10 +8,10 @@ use Rattle.lexer.specs.Lex.{token_from}
 use Rattle.lexer.specs.declared.token.Token.{Token}
 use Rattle.std.proofs.lemmas.Bool.{and_parts}
 
-pub returns-then-starts-with-mark : goal.returns-then-starts-with-mark
-returns-then-starts-with-mark g c =
+pub returns-then-starts_with_mark : goal.returns-then-starts_with_mark
+returns-then-starts_with_mark g c =
     let xs = g.T.Text.bytes c.args.text.now in
-    let marks = and_parts (eqb (peek 0 xs) 239) (eqb (peek 1 xs) 187 && eqb (peek 2 xs) 191) (sym c.if-starts-with-mark.ensures) in
+    let marks = and_parts (eqb (peek 0 xs) 239) (eqb (peek 1 xs) 187 && eqb (peek 2 xs) 191) (sym c.if-starts_with_mark.ensures) in
     let last = and_parts (eqb (peek 1 xs) 187) (eqb (peek 2 xs) 191) marks.1 in
     let three = within xs 2 190 (eqb-true (peek 2 xs) 191 last.1) in
     record { value = search rules; inside = (omega arith, omega arith); laws = all_laws; real = refl }
@@ -21,7 +21,7 @@ returns g c =
     let xs = g.T.Text.bytes c.args.text.now in
     let made = c.new.ensures in
     let h : c.args.place < length xs = omega arith in
-    let is = c.advance-token.ensures ∙ ap (λ t. token_from (drop c.new.result.place (g.T.Text.bytes t.now))) made.0 ∙ ap (λ k. token_from (drop k xs)) made.2 in
+    let is = c.advance_token.ensures ∙ ap (λ t. token_from (drop c.new.result.place (g.T.Text.bytes t.now))) made.0 ∙ ap (λ k. token_from (drop k xs)) made.2 in
     let stands = subst (λ (t : Token). Stands xs c.args.place t) (sym is) (token_stands xs c.args.place h) in
     record { value = search rules; inside = stands.inside; laws = all_laws; real = stands.real }
 

@@ -3,8 +3,8 @@ use Rattle.lexer.proofs.Dollars.{begins_fits, closed_end, closed_more, delimited
 use Rattle.lexer.proofs.dollar.dollar_end.Goals as goal
 use Rattle.std.proofs.lemmas.List.{length-drop}
 
-pub overflow-add-result : goal.overflow-add-result
-overflow-add-result g c =
+pub overflow_add-result : goal.overflow_add-result
+overflow_add-result g c =
     let xs = g.T.Text.bytes c.args.text.now in
     let delimiter = take c.args.len (drop c.args.opener xs) in
     let whole = range_length xs c.args.opener c.args.len c.requires.within in

@@ -2,10 +2,10 @@ use Rattle.lexer.proofs.psql.command_of.Goals as goal
 use Rattle.lexer.specs.Psql.{meaning}
 use Rattle.std.proofs.Common.{rules}
 
-pub returns-then-is-one-of : goal.returns-then-is-one-of
+pub returns-then-is_one_of : goal.returns-then-is_one_of
 unfolding meaning
-returns-then-is-one-of g c = search rules
+returns-then-is_one_of g c = search rules
 
-pub returns-else-is-one-of : goal.returns-else-is-one-of
+pub returns-else-is_one_of : goal.returns-else-is_one_of
 unfolding meaning
-returns-else-is-one-of g c = search rules
+returns-else-is_one_of g c = search rules

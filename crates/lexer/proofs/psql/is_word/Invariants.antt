@@ -5,5 +5,5 @@ use Rattle.lexer.specs.Psql.{fold, spelt}
 abbrev pub invariant-loop-letter : goal.invariant-loop-letter
 invariant-loop-letter g l =
     let ys = take l.len (drop l.place (g.T.Text.bytes l.text)) in
-    (l.at ≡ l.place + l.letter_index)
-    × (spelt (fold l.any-case) (drop l.letter_index l.word) (drop l.letter_index ys) ≡ spelt (fold l.any-case) l.word ys)
+    (l.at ≡ l.place + l.letter-index)
+    × (spelt (fold l.any_case) (drop l.letter-index l.word) (drop l.letter-index ys) ≡ spelt (fold l.any_case) l.word ys)

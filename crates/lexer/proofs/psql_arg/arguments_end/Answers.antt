@@ -3,8 +3,8 @@ use Rattle.lexer.proofs.Rest.{inside}
 use Rattle.lexer.proofs.psql_arg.arguments_end.Goals as goal
 use Rattle.std.proofs.Common.{arith, rules}
 
-pub overflow-add-end : goal.overflow-add-end
-overflow-add-end g c =
+pub overflow_add-end : goal.overflow_add-end
+overflow_add-end g c =
     let within = inside (g.T.Text.bytes c.args.text.now) c.loop-byte.end c.in-Some.byte c.in-Some.ensures in
     let short = g.T.Text.short c.args.text.now in
     search rules
@@ -23,7 +23,7 @@ returns-then-stops g c =
     let stop = arguments_stop (g.T.Text.bytes c.args.text.now) c.loop-byte.end c.in-Some.byte c.in-Some.ensures c.loop-byte.state c.if-stops.ensures in
     omega arith
 
-pub returns-in-default : goal.returns-in-default
-returns-in-default g c =
-    let none = arguments_past (g.T.Text.bytes c.args.text.now) c.loop-byte.end c.in-default.ensures c.loop-byte.state in
+pub returns-in_default : goal.returns-in_default
+returns-in_default g c =
+    let none = arguments_past (g.T.Text.bytes c.args.text.now) c.loop-byte.end c.in_default.ensures c.loop-byte.state in
     omega arith

@@ -5,8 +5,8 @@ use Rattle.lexer.specs.PsqlArg.{options}
 use Rattle.lexer.specs.declared.psql_arg.ArgState.TheVariants.{Outside}
 use Rattle.std.proofs.Common.{drop, ap, arith, rules}
 
-pub overflow-add-end : goal.overflow-add-end
-overflow-add-end g c =
+pub overflow_add-end : goal.overflow_add-end
+overflow_add-end g c =
     let within = inside (g.T.Text.bytes c.args.text.now) c.loop-byte.end c.in-Some.byte c.in-Some.ensures in
     let short = g.T.Text.short c.args.text.now in
     search rules
@@ -17,26 +17,26 @@ loop-byte-smaller g c =
 
 pub loop-byte-preserved : goal.loop-byte-preserved
 loop-byte-preserved g c =
-    let more = options_more (g.T.Text.bytes c.args.text.now) c.loop-byte.end c.in-Some.byte c.in-Some.ensures c.loop-byte.state c.loop-byte.last c.if-stops.ensures c.if-ends-argument.ensures c.after-state.result c.after-state.ensures c.last-after-last.result c.last-after-last.ensures in
+    let more = options_more (g.T.Text.bytes c.args.text.now) c.loop-byte.end c.in-Some.byte c.in-Some.ensures c.loop-byte.state c.loop-byte.last c.if-stops.ensures c.if-ends_argument.ensures c.after-state.result c.after-state.ensures c.last_after-last.result c.last_after-last.ensures in
     (omega arith, omega arith)
 
 pub options-smaller : goal.options-smaller
 options-smaller g c =
     let xs = g.T.Text.bytes c.args.text.now in
     let within = inside xs c.loop-byte.end c.in-Some.byte c.in-Some.ensures in
-    let blank = blank_first xs c.loop-byte.end c.in-Some.byte c.in-Some.ensures c.loop-byte.state c.if-ends-argument.ensures in
+    let blank = blank_first xs c.loop-byte.end c.in-Some.byte c.in-Some.ensures c.loop-byte.state c.if-ends_argument.ensures in
     omega arith
 
 pub options-preserved : goal.options-preserved
 options-preserved g c =
     let xs = g.T.Text.bytes c.args.text.now in
-    let next = options_next xs c.loop-byte.end c.in-Some.byte c.in-Some.ensures c.loop-byte.state c.loop-byte.last c.if-stops.ensures c.if-ends-argument.ensures c.if-last-eq41.false in
-    let same = ap (λ n. options Outside 0 (drop n xs)) c.blanks-end-end.ensures in
+    let next = options_next xs c.loop-byte.end c.in-Some.byte c.in-Some.ensures c.loop-byte.state c.loop-byte.last c.if-stops.ensures c.if-ends_argument.ensures c.if-last-eq41.false in
+    let same = ap (λ n. options Outside 0 (drop n xs)) c.blanks_end-end.ensures in
     omega arith
 
-pub returns-in-default : goal.returns-in-default
-returns-in-default g c =
-    let none = options_past (g.T.Text.bytes c.args.text.now) c.loop-byte.end c.in-default.ensures c.loop-byte.state c.loop-byte.last in
+pub returns-in_default : goal.returns-in_default
+returns-in_default g c =
+    let none = options_past (g.T.Text.bytes c.args.text.now) c.loop-byte.end c.in_default.ensures c.loop-byte.state c.loop-byte.last in
     omega arith
 
 pub returns-then-stops : goal.returns-then-stops
@@ -46,5 +46,5 @@ returns-then-stops g c =
 
 pub returns-then-last-eq41 : goal.returns-then-last-eq41
 returns-then-last-eq41 g c =
-    let end = options_end_lem (g.T.Text.bytes c.args.text.now) c.loop-byte.end c.in-Some.byte c.in-Some.ensures c.loop-byte.state c.loop-byte.last c.if-stops.ensures c.if-ends-argument.ensures c.if-last-eq41.true in
+    let end = options_end_lem (g.T.Text.bytes c.args.text.now) c.loop-byte.end c.in-Some.byte c.in-Some.ensures c.loop-byte.state c.loop-byte.last c.if-stops.ensures c.if-ends_argument.ensures c.if-last-eq41.true in
     omega arith

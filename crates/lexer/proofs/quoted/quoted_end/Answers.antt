@@ -5,20 +5,20 @@ use Rattle.lexer.proofs.quoted.quoted_end.Goals as goal
 use Rattle.lexer.proofs.quoted.quoted_end.Goals.{else-escapes-via-then-escapes+then-byte-eq92+else-end-len, else-escapes-via-then-escapes+else-byte-eq92, else-escapes-via-else-escapes}
 use Rattle.lexer.specs.Class.{backslash}
 
-pub overflow-add-end : goal.overflow-add-end
-overflow-add-end g c =
+pub overflow_add-end : goal.overflow_add-end
+overflow_add-end g c =
     let within = inside (g.T.Text.bytes c.args.text.now) c.loop-byte.end c.in-Some.byte c.in-Some.ensures in
     let short = g.T.Text.short c.args.text.now in
     search rules
 
-pub returns-then-byte-at-quote : goal.returns-then-byte-at-quote
-returns-then-byte-at-quote g c =
+pub returns-then-byte_at-quote : goal.returns-then-byte_at-quote
+returns-then-byte_at-quote g c =
     let xs = g.T.Text.bytes c.args.text.now in
-    let turn = closing_quote c.args.quote c.args.escapes c.requires c.in-Some.byte xs c.loop-byte.end c.in-Some.ensures c.if-byte-quote.true (λ e. c.if-byte-at-quote.true (c.byte-at.ensures ∙ e)) in
+    let turn = closing_quote c.args.quote c.args.escapes c.requires c.in-Some.byte xs c.loop-byte.end c.in-Some.ensures c.if-byte-quote.true (λ e. c.if-byte_at-quote.true (c.byte_at.ensures ∙ e)) in
     record { end = omega (arith, turn.0); closed = sym turn.1 ∙ c.loop-byte.invariant.1 }
 
-pub overflow-add-end-then-byte-quote : goal.overflow-add-end-then-byte-quote
-overflow-add-end-then-byte-quote g c =
+pub overflow_add-end-then-byte-quote : goal.overflow_add-end-then-byte-quote
+overflow_add-end-then-byte-quote g c =
     let xs = g.T.Text.bytes c.args.text.now in
     let more : c.loop-byte.end + 1 < length xs = within_positive xs (c.loop-byte.end + 1) (omega arith) in
     let short = g.T.Text.short c.args.text.now in
@@ -31,7 +31,7 @@ loop-byte-smaller-then-byte-quote g c =
 pub loop-byte-preserved-then-byte-quote : goal.loop-byte-preserved-then-byte-quote
 loop-byte-preserved-then-byte-quote g c =
     let xs = g.T.Text.bytes c.args.text.now in
-    let turn = doubled_quote c.args.quote c.args.escapes c.requires c.in-Some.byte xs c.loop-byte.end c.in-Some.ensures c.if-byte-quote.true (sym c.byte-at.ensures ∙ c.if-byte-at-quote.false) in
+    let turn = doubled_quote c.args.quote c.args.escapes c.requires c.in-Some.byte xs c.loop-byte.end c.in-Some.ensures c.if-byte-quote.true (sym c.byte_at.ensures ∙ c.if-byte_at-quote.false) in
     (omega (arith, turn.0), sym turn.1 ∙ c.loop-byte.invariant.1)
 
 pub loop-byte-preserved-then-end-len : goal.loop-byte-preserved-then-end-len
@@ -67,5 +67,5 @@ loop-byte-preserved g c =
 pub returns : goal.returns
 returns g c =
     let xs = g.T.Text.bytes c.args.text.now in
-    let none = quoted_past c.args.quote c.args.escapes xs c.loop-byte.end c.in-default.ensures in
-    record { end = omega arith; closed = sym (closed_past c.args.quote c.args.escapes xs c.loop-byte.end c.in-default.ensures) ∙ c.loop-byte.invariant.1 }
+    let none = quoted_past c.args.quote c.args.escapes xs c.loop-byte.end c.in_default.ensures in
+    record { end = omega arith; closed = sym (closed_past c.args.quote c.args.escapes xs c.loop-byte.end c.in_default.ensures) ∙ c.loop-byte.invariant.1 }

@@ -22,30 +22,30 @@ pub returns-in-0-to-9 : goal.returns-in-0-to-9
 unfolding plain_start
 returns-in-0-to-9 c = search rules
 
-pub returns-in-default : goal.returns-in-default
+pub returns-in_default : goal.returns-in_default
 unfolding plain_start
-returns-in-default c = search rules
+returns-in_default c = search rules
 
 pub returns-in-a-to-z : goal.returns-in-a-to-z
 unfolding plain_start
 returns-in-a-to-z c = search rules
 
-pub returns-in-a-to-z·2 : goal.returns-in-a-to-z·2
+pub returns-in-a-to-z-2 : goal.returns-in-a-to-z-2
 unfolding plain_start
-returns-in-a-to-z·2 c = search rules
+returns-in-a-to-z-2 c = search rules
 
-pub returns-in-a-to-z·3 : goal.returns-in-a-to-z·3
+pub returns-in-a-to-z-3 : goal.returns-in-a-to-z-3
 unfolding plain_start
-returns-in-a-to-z·3 c = search rules
+returns-in-a-to-z-3 c = search rules
 
-pub returns-in-a-to-z·4 : goal.returns-in-a-to-z·4
+pub returns-in-a-to-z-4 : goal.returns-in-a-to-z-4
 unfolding plain_start
-returns-in-a-to-z·4 c = search rules
+returns-in-a-to-z-4 c = search rules
 
 pub returns-in-32 : goal.returns-in-32
 unfolding plain_start
 returns-in-32 c = search rules
 
-pub returns-in-32·2 : goal.returns-in-32·2
+pub returns-in-32-2 : goal.returns-in-32-2
 unfolding plain_start
-returns-in-32·2 c = search rules
+returns-in-32-2 c = search rules

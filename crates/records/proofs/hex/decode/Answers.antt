@@ -9,13 +9,13 @@ returns-then-place-digits c =
     let single = decoded_single c.args.digits.now c.loop-place.place (omega arith) in
     sym (ap (bytes_before (vec_items c.loop-place.bytes)) single) ∙ c.loop-place.invariant.1
 
-pub returns-in-default : goal.returns-in-default
-returns-in-default c =
+pub returns-in_default : goal.returns-in_default
+returns-in_default c =
     let digits = c.args.digits.now in
     let place = c.loop-place.place in
     let front = vec_items c.loop-place.bytes in
     let two : place + 1 < length digits = omega arith in
-    ap (λ b. bytes_before front (before b (decoded (drop (place + 2) digits)))) c.in-default.ensures
+    ap (λ b. bytes_before front (before b (decoded (drop (place + 2) digits)))) c.in_default.ensures
     ∙ sym (ap (bytes_before front) (decoded_at digits place two))
     ∙ c.loop-place.invariant.1
 
@@ -27,7 +27,7 @@ loop-place-preserved c =
     let two : place + 1 < length digits = omega arith in
     let rest = decoded (drop (place + 2) digits) in (
       omega arith,
-      ap (λ items. bytes_before items rest) c.in-ok-push.ensures.items
+      ap (λ items. bytes_before items rest) c.in_ok-push.ensures.items
           ∙ bytes_before_push front c.in-Some.byte rest
           ∙ ap (λ b. bytes_before front (before b rest)) c.in-Some.ensures
           ∙ sym (ap (bytes_before front) (decoded_at digits place two))

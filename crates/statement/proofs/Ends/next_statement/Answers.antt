@@ -8,33 +8,33 @@ use Rattle.statement.specs.Statements.{state_after, statements, statements_on}
 use Rattle.statement.proofs.Shares.{shared}
 use Rattle.statement.proofs.Turns.{statements_more, statement_here, state_more, no_tokens}
 use Rattle.statement.proofs.Ends.next_statement.Goals as goal
-use Rattle.statement.proofs.Ends.next_statement.Goals.{After-end-after, then-is-solid, else-is-solid}
+use Rattle.statement.proofs.Ends.next_statement.Goals.{After-end_after, then-is_solid, else-is_solid}
 
 abbrev none : Token
 none = record { kind = Unknown; len = 0 }
 
-abbrev here : After-end-after → Token
+abbrev here : After-end_after → Token
 here c = get_or c.args.tokens.now c.loop-passed.passed none
 
 -- the solid tokens are counted
-counted : (c : After-end-after) → c.if-is-solid.solid ≡ c.loop-passed.solid + cond (solid (here c)) 1 0
+counted : (c : After-end_after) → c.if-is_solid.solid ≡ c.loop-passed.solid + cond (solid (here c)) 1 0
 counted c = search rules
 
 -- the statements as the turn began, from those of the whole list
-sofar : (c : After-end-after) → slice_get (statements_on c.loop-passed.self.depth c.loop-passed.passed c.loop-passed.solid (drop c.loop-passed.passed c.args.tokens.now)) 0 ≡ slice_get (statements c.args.self.now.depth c.args.tokens.now) 0
+sofar : (c : After-end_after) → slice_get (statements_on c.loop-passed.self.depth c.loop-passed.passed c.loop-passed.solid (drop c.loop-passed.passed c.args.tokens.now)) 0 ≡ slice_get (statements c.args.self.now.depth c.args.tokens.now) 0
 sofar c = c.loop-passed.invariant.2
 
 -- the state after the token, from that before the list
-state_now : (c : After-end-after) → c.end-after.new.self.depth ≡ state_after c.args.self.now.depth (take (c.loop-passed.passed + 1) c.args.tokens.now)
+state_now : (c : After-end_after) → c.end_after.new.self.depth ≡ state_after c.args.self.now.depth (take (c.loop-passed.passed + 1) c.args.tokens.now)
 state_now c =
-    c.end-after.ensures.state
+    c.end_after.ensures.state
     ∙ ap (λ s. next_state s (here c)) c.loop-passed.invariant.3
     ∙ sym (state_more c.args.tokens.now c.loop-passed.passed none c.loop-passed-test.true c.args.self.now.depth)
 
 pub returns-in-Some : goal.returns-in-Some
 returns-in-Some c =
-    let a = (goal.at.returns-in-Some c).After-end-after in
-    let found = statement_here c.args.tokens.now c.loop-passed.passed none c.loop-passed-test.true c.loop-passed.self.depth c.loop-passed.passed c.loop-passed.solid c.in-Some.cause (sym c.end-after.ensures.end ∙ c.in-Some.is) in
+    let a = (goal.at.returns-in-Some c).After-end_after in
+    let found = statement_here c.args.tokens.now c.loop-passed.passed none c.loop-passed-test.true c.loop-passed.self.depth c.loop-passed.passed c.loop-passed.solid c.in-Some.cause (sym c.end_after.ensures.end ∙ c.in-Some.is) in
     record {
       first = ap (λ n. Some record { tokens = c.loop-passed.passed + 1; solid = n; cause = c.in-Some.cause }) (counted a) ∙ sym found ∙ sofar a;
       state = state_now a;
@@ -43,13 +43,13 @@ returns-in-Some c =
 
 pub loop-passed-preserved : goal.loop-passed-preserved
 loop-passed-preserved c =
-    let a = (goal.at.loop-passed-preserved c).After-end-after in
+    let a = (goal.at.loop-passed-preserved c).After-end_after in
     let ts = c.args.tokens.now in
     let i = c.loop-passed.passed in
-    let more = statements_more ts i none c.loop-passed-test.true c.loop-passed.self.depth i c.loop-passed.solid (sym c.end-after.ensures.end ∙ c.in-default.is) in (
+    let more = statements_more ts i none c.loop-passed-test.true c.loop-passed.self.depth i c.loop-passed.solid (sym c.end_after.ensures.end ∙ c.in_default.is) in (
       search rules,
       search rules,
-      ap (λ s. slice_get (statements_on s (i + 1) c.if-is-solid.solid (drop (i + 1) ts)) 0) c.end-after.ensures.state
+      ap (λ s. slice_get (statements_on s (i + 1) c.if-is_solid.solid (drop (i + 1) ts)) 0) c.end_after.ensures.state
           ∙ ap (λ m. slice_get (statements_on (next_state c.loop-passed.self.depth (here a)) (i + 1) m (drop (i + 1) ts)) 0) (counted a)
           ∙ ap (λ l. slice_get l 0) (sym more)
           ∙ sofar a,

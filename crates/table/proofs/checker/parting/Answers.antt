@@ -9,24 +9,24 @@ use Rattle.table.proofs.checker.parting.Goals as goal
 nothing : Token
 nothing = record { kind = Unknown; len = 0 }
 
-pub returns-in-default : goal.returns-in-default
-returns-in-default g c =
+pub returns-in_default : goal.returns-in_default
+returns-in_default g c =
     let bs = g.T.Text.bytes c.args.text.now in
     let i = c.loop-index.index in
-    let met = c.in-default.ensures in
+    let met = c.in_default.ensures in
     let inv = c.loop-index.invariant in
     let all = reading_all met.laws bs c.loop-index.place i inv.0 (sym met.value) in
     sym (parting_first_ends (cut bs) c.args.tokens.now i nothing (omega arith) (omega arith)) ∙ inv.1
 
-pub returns-then-not-same-token : goal.returns-then-not-same-token
+pub returns-then-not-same_token : goal.returns-then-not-same_token
 unfolding nothing
-returns-then-not-same-token g c =
+returns-then-not-same_token g c =
     let bs = g.T.Text.bytes c.args.text.now in
     let i = c.loop-index.index in
     let met = c.in-Some.ensures in
     let inv = c.loop-index.invariant in
     let next = sym (reading_next met.laws bs c.loop-index.place i inv.0) ∙ sym met.value in
-    sym (parting_here (cut bs) c.args.tokens.now i nothing c.in-Some.token next (omega arith) (sym c.if-not-same-token.ensures.value)) ∙ inv.1
+    sym (parting_here (cut bs) c.args.tokens.now i nothing c.in-Some.token next (omega arith) (sym c.if-not-same_token.ensures.value)) ∙ inv.1
 
 pub loop-index-preserved : goal.loop-index-preserved
 unfolding nothing
@@ -37,17 +37,17 @@ loop-index-preserved g c =
     let inv = c.loop-index.invariant in
     let next = sym (reading_next met.laws bs c.loop-index.place i inv.0) ∙ sym met.value in (
       reading_more met.laws bs c.loop-index.place i inv.0 c.in-Some.token (sym met.value) met.inside.0 met.inside.1,
-      sym (parting_later (cut bs) c.args.tokens.now i nothing c.in-Some.token next (omega arith) (sym c.if-not-same-token.ensures.value)) ∙ inv.1,
+      sym (parting_later (cut bs) c.args.tokens.now i nothing c.in-Some.token next (omega arith) (sym c.if-not-same_token.ensures.value)) ∙ inv.1,
     )
 
-pub returns-in-Some-token-at : goal.returns-in-Some-token-at
-returns-in-Some-token-at g c =
+pub returns-in-Some-token_at : goal.returns-in-Some-token_at
+returns-in-Some-token_at g c =
     let bs = g.T.Text.bytes c.args.text.now in
     let i = c.loop-index.index in
-    let met = c.in-Some-token-at.ensures in
+    let met = c.in-Some-token_at.ensures in
     let inv = c.loop-index.invariant in
     let next = sym (reading_next met.laws bs c.loop-index.place i inv.0) ∙ sym met.value in
-    let below = slice_get_below (cut bs) i c.in-Some-token-at.field-0 next in
+    let below = slice_get_below (cut bs) i c.in-Some-token_at.field-0 next in
     sym (parting_second_ends (cut bs) c.args.tokens.now i nothing below (omega arith)) ∙ inv.1
 
 pub returns-in-None : goal.returns-in-None

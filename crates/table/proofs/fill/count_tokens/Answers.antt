@@ -9,5 +9,5 @@ loop-token-preserved g c =
 
 pub returns : goal.returns
 returns g c =
-    let met = c.in-default.ensures in
+    let met = c.in_default.ensures in
     sym (reading_all met.laws (g.T.Text.bytes c.args.text.now) c.loop-token.place c.loop-token.count c.loop-token.invariant (sym met.value))

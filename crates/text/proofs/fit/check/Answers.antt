@@ -18,20 +18,20 @@ returns-then-len-gt-LONGEST g c =
     let xs = g.T.Text.bytes c.args.text.now in
     answer xs _ (sym (checked_long xs (omega arith)))
 
-pub overflow-sub-result : goal.overflow-sub-result
-overflow-sub-result g c =
+pub overflow_sub-result : goal.overflow_sub-result
+overflow_sub-result g c =
     let p = progress c.loop-byte.checker.state in
     let q = progress c.feed.new.self.state in
-    let same = taken_ill p q c.in-Some.byte c.feed.ensures (sym c.if-is-ill.ensures) in
+    let same = taken_ill p q c.in-Some.byte c.feed.ensures (sym c.if-is_ill.ensures) in
     omega arith
 
-pub returns-then-is-ill : goal.returns-then-is-ill
-returns-then-is-ill g c =
+pub returns-then-is_ill : goal.returns-then-is_ill
+returns-then-is_ill g c =
     let xs = g.T.Text.bytes c.args.text.now in
     let p = progress c.loop-byte.checker.state in
     let q = progress c.feed.new.self.state in
     let i = c.loop-byte.place in
-    let found = found_ill p q xs i c.in-Some.byte (sym c.in-Some.ensures) c.feed.ensures (sym c.if-is-ill.ensures) in
+    let found = found_ill p q xs i c.in-Some.byte (sym c.in-Some.ensures) c.feed.ensures (sym c.if-is_ill.ensures) in
     answer xs _
     (ap (λ n. Err (IllFormed (i - n))) c.taken.ensures
     ∙ sym (checked_ill xs (i - q.taken) (omega arith) (sym c.loop-byte.invariant.2 ∙ found)))
@@ -49,7 +49,7 @@ loop-byte-preserved g c =
     let i = c.loop-byte.place in
     let below = slice_get_below xs i c.in-Some.byte (sym c.in-Some.ensures) in
     let taken = taken_more p q c.in-Some.byte c.feed.ensures in
-    let more = found_more p q xs i c.in-Some.byte (sym c.in-Some.ensures) c.feed.ensures (sym c.if-is-ill.ensures) in
+    let more = found_more p q xs i c.in-Some.byte (sym c.in-Some.ensures) c.feed.ensures (sym c.if-is_ill.ensures) in
     (omega arith, omega arith, sym more ∙ c.loop-byte.invariant.2)
 
 pub returns-then-taken-gt0 : goal.returns-then-taken-gt0
@@ -57,7 +57,7 @@ returns-then-taken-gt0 g c =
     let xs = g.T.Text.bytes c.args.text.now in
     let p = progress c.loop-byte.checker.state in
     let i = c.loop-byte.place in
-    let found = found_open p xs i (sym c.in-default.ensures) (omega arith) in
+    let found = found_open p xs i (sym c.in_default.ensures) (omega arith) in
     answer xs _
     (ap (λ n. Err (IllFormed (i - n))) c.taken-then-taken-gt0.ensures
     ∙ sym (checked_ill xs (i - p.taken) (omega arith) (sym c.loop-byte.invariant.2 ∙ found)))
@@ -66,5 +66,5 @@ pub returns : goal.returns
 returns g c =
     let xs = g.T.Text.bytes c.args.text.now in
     let p = progress c.loop-byte.checker.state in
-    let found = found_whole p xs c.loop-byte.place (sym c.in-default.ensures) (omega arith) in
+    let found = found_whole p xs c.loop-byte.place (sym c.in_default.ensures) (omega arith) in
     answer xs _ (sym (checked_fit xs (omega arith) (sym c.loop-byte.invariant.2 ∙ found)))

@@ -7,8 +7,8 @@ use Rattle.text.proofs.run.clipped_byte.Goals as goal
 pub bounds-run-place : goal.bounds-run-place
 bounds-run-place c = search (rules, length-clip)
 
-pub returns-then-place-clipped-len : goal.returns-then-place-clipped-len
-returns-then-place-clipped-len c = search (rules, slice_get-get_or, length-clip, get_or-clip)
+pub returns-then-place-clipped_len : goal.returns-then-place-clipped_len
+returns-then-place-clipped_len c = search (rules, slice_get-get_or, length-clip, get_or-clip)
 
-pub returns-else-place-clipped-len : goal.returns-else-place-clipped-len
-returns-else-place-clipped-len c = search (rules, slice_get_past)
+pub returns-else-place-clipped_len : goal.returns-else-place-clipped_len
+returns-else-place-clipped_len c = search (rules, slice_get_past)

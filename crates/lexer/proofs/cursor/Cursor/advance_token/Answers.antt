@@ -3,7 +3,7 @@ use Rattle.lexer.proofs.Moves.{moved_by, moved_rest}
 use Rattle.lexer.proofs.Rest.{front, peek_some}
 use Rattle.lexer.proofs.cursor.Cursor.advance_token.Given as given
 use Rattle.lexer.proofs.cursor.Cursor.advance_token.Goals as goal
-use Rattle.lexer.proofs.cursor.Cursor.advance_token.Goals.{After-start-of-start, In-Some}
+use Rattle.lexer.proofs.cursor.Cursor.advance_token.Goals.{After-start_of-start, In-Some}
 use Rattle.lexer.specs.Cursor.{Moved, next_len, peek, rest}
 use Rattle.lexer.specs.Lex.{kind_of, lex, rest_len, start_with, token_from}
 use Rattle.lexer.specs.Start.{start_of}
@@ -16,9 +16,9 @@ one : (g : given.Over) (c : In-Some g) → Moved c.args.self.now c.bump.new.self
 one g c = moved_by (ap next_len (front (rest g.T.Text.bytes c.args.self.now) c.in-Some.first_char c.in-Some.ensures.value)) c.bump.ensures.moved
 
 -- how the token starts, by the bytes that follow its first
-begins : (g : given.Over) (c : After-start-of-start g) → c.start-of-start.result ≡ start_with c.in-Some.first_char (rest g.T.Text.bytes c.bump.new.self)
+begins : (g : given.Over) (c : After-start_of-start g) → c.start_of-start.result ≡ start_with c.in-Some.first_char (rest g.T.Text.bytes c.bump.new.self)
 begins g c =
-    c.start-of-start.ensures ∙ ap (λ n. start_of c.in-Some.first_char n c.second.result) c.first.ensures
+    c.start_of-start.ensures ∙ ap (λ n. start_of c.in-Some.first_char n c.second.result) c.first.ensures
     ∙ ap (start_of c.in-Some.first_char (peek 0 (rest g.T.Text.bytes c.bump.new.self))) c.second.ensures
 
 pub finish-kind-requires : goal.finish-kind-requires
@@ -29,7 +29,7 @@ finish-kind-requires g c =
     let from = m.start in
     let whole : c.args.self.now.place ≡ c.args.self.now.place + 0 = omega arith in
     record {
-      begun = begins g (goal.at.finish-kind-requires g c).After-start-of-start;
+      begun = begins g (goal.at.finish-kind-requires g c).After-start_of-start;
       one = omega (arith, c.requires);
       first = ap (λ t. get_or (g.T.Text.bytes t.now) c.bump.new.self.start 0) m.text
           ∙ ap (λ k. get_or bs k 0) (m.start ∙ sym c.requires ∙ whole) ∙ sym (get_or-drop c.args.self.now.place bs 0 0)
@@ -47,7 +47,7 @@ returns g c =
     let b = c.in-Some.first_char in
     let m = one g (goal.at.returns g c).In-Some in
     let ys = rest bytes c.bump.new.self in
-    let s = begins g (goal.at.returns g c).After-start-of-start in
+    let s = begins g (goal.at.returns g c).After-start_of-start in
     let at = m.place in
     let from = m.start in
     let then = c.finish-kind.ensures.moved.place in

@@ -6,31 +6,31 @@ use Rattle.lexer.specs.Cursor.{digits, identifier, rest}
 use Rattle.lexer.specs.Number.{based_len}
 use Rattle.lexer.specs.declared.token.LiteralKind.TheVariants.{Int}
 
-pub returns-then-not-has-digits : goal.returns-then-not-has-digits
+pub returns-then-not-has_digits : goal.returns-then-not-has_digits
 unfolding based_len
-returns-then-not-has-digits g c =
+returns-then-not-has_digits g c =
     let bytes = g.T.Text.bytes in
-    let first = c.eat-digits-has-digits.ensures.moved in
-    let junk = c.eat-identifier.ensures in
+    let first = c.eat_digits-has_digits.ensures.moved in
+    let junk = c.eat_identifier.ensures in
     record {
-      kind = based_is c.args.base g.C.DigitClass.digit (c.args.self.now.place - c.args.self.now.start) (rest bytes c.args.self.now) _ _ _ c.if-not-has-digits.ensures.met
-          (c.pos-within-token-trailing-junk-start.ensures ∙ moved_pos first c.requires)
-          (pos_then bytes identifier junk (moved_order first c.requires) (moved_rest bytes first) c.pos-within-token-trailing-junk-start.ensures c.pos_within_token.ensures);
+      kind = based_is c.args.base g.C.DigitClass.digit (c.args.self.now.place - c.args.self.now.start) (rest bytes c.args.self.now) _ _ _ c.if-not-has_digits.ensures.met
+          (c.pos_within_token-trailing_junk_start.ensures ∙ moved_pos first c.requires)
+          (pos_then bytes identifier junk (moved_order first c.requires) (moved_rest bytes first) c.pos_within_token-trailing_junk_start.ensures c.pos_within_token.ensures);
       moved = moved_then bytes identifier first junk;
     }
 
 -- where a digit was met, it does not matter where the junk ends
-pub returns-else-not-has-digits : goal.returns-else-not-has-digits
+pub returns-else-not-has_digits : goal.returns-else-not-has_digits
 unfolding based_len
-returns-else-not-has-digits g c =
+returns-else-not-has_digits g c =
     let bytes = g.T.Text.bytes in
-    let first = c.eat-digits-has-digits.ensures.moved in
-    let junk = c.eat-identifier.ensures in
+    let first = c.eat_digits-has_digits.ensures.moved in
+    let junk = c.eat_identifier.ensures in
     let xs = rest bytes c.args.self.now in
     record {
-      kind = ap (λ b. Int c.args.base (not b) c.pos-within-token-trailing-junk-start.result) c.if-not-has-digits.false
+      kind = ap (λ b. Int c.args.base (not b) c.pos_within_token-trailing_junk_start.result) c.if-not-has_digits.false
           ∙ based_is c.args.base g.C.DigitClass.digit (c.args.self.now.place - c.args.self.now.start) xs true _
-          (c.pos-within-token-trailing-junk-start.result + identifier (drop (digits g.C.DigitClass.digit xs) xs)) c.if-not-has-digits.ensures.met
-          (c.pos-within-token-trailing-junk-start.ensures ∙ moved_pos first c.requires) refl;
+          (c.pos_within_token-trailing_junk_start.result + identifier (drop (digits g.C.DigitClass.digit xs) xs)) c.if-not-has_digits.ensures.met
+          (c.pos_within_token-trailing_junk_start.ensures ∙ moved_pos first c.requires) refl;
       moved = moved_then bytes identifier first junk;
     }

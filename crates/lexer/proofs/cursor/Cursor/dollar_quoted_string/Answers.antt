@@ -5,11 +5,11 @@ use Rattle.lexer.specs.Cursor.{rest}
 use Rattle.lexer.specs.Dollar.{delimited, delimited_closed, dollar_delimiter, dollar_opener}
 use Rattle.std.proofs.lemmas.List.{drop-drop, length-drop}
 
-pub dollar-end-end-requires : goal.dollar-end-end-requires
-dollar-end-end-requires g c =
+pub dollar_end-end-requires : goal.dollar_end-end-requires
+dollar_end-end-requires g c =
     let bytes = g.T.Text.bytes in
     let self = c.args.self.now in
-    let opened = opener_moved bytes c.requires.opens c.eat-while.ensures c.bump.ensures.moved in
+    let opened = opener_moved bytes c.requires.opens c.eat_while.ensures c.bump.ensures.moved in
     let place = opened.place in
     let same = ap (λ t. length (bytes t.now)) (c.text.ensures ∙ opened.text) in
     let room = opener_within (rest bytes self) c.requires.opens in
@@ -23,7 +23,7 @@ returns g c =
     let bs = bytes self.text.now in
     let xs = rest bytes self in
     let n = dollar_opener xs in
-    let opened = opener_moved bytes c.requires.opens c.eat-while.ensures c.bump.ensures.moved in
+    let opened = opener_moved bytes c.requires.opens c.eat_while.ensures c.bump.ensures.moved in
     let place = opened.place in
     let same : bytes c.text.result.now ≡ bs = ap (λ t. bytes t.now) (c.text.ensures ∙ opened.text) in
     let from = c.place-opener.result - 1 in
@@ -32,10 +32,10 @@ returns g c =
     let long : len ≡ n + 1 = omega arith in
     let delimiter : take len (drop from (bytes c.text.result.now)) ≡ dollar_delimiter xs = ap (λ l. take len (drop from l)) same ∙ ap (λ k. take k (drop from bs)) long ∙ ap (λ k. take (n + 1) (drop k bs)) at ∙ opener_bytes bs self.start n c.requires.sign ∙ ap (λ k. 36 ∷ take n (drop k bs)) (sym c.requires.first) in
     let body : drop (from + len) (bytes c.text.result.now) ≡ drop n xs = ap (drop (from + len)) same ∙ ap (λ k. drop k bs) (omega arith) ∙ sym (drop-drop n self.place bs) in
-    let end = c.dollar-end-end.ensures.end in
+    let end = c.dollar_end-end.ensures.end in
     let more = ap (λ l. delimited l (drop (from + len) (bytes c.text.result.now))) delimiter ∙ ap (delimited (dollar_delimiter xs)) body in
-    let moved = c.move-to.ensures.place in
+    let moved = c.move_to.ensures.place in
     record {
-      closed = c.dollar-end-end.ensures.closed ∙ ap (λ l. delimited_closed l (drop (from + len) (bytes c.text.result.now))) delimiter ∙ ap (delimited_closed (dollar_delimiter xs)) body;
-      moved = record { text = c.move-to.ensures.text ∙ opened.text; start = c.move-to.ensures.start ∙ opened.start; place = omega arith };
+      closed = c.dollar_end-end.ensures.closed ∙ ap (λ l. delimited_closed l (drop (from + len) (bytes c.text.result.now))) delimiter ∙ ap (delimited_closed (dollar_delimiter xs)) body;
+      moved = record { text = c.move_to.ensures.text ∙ opened.text; start = c.move_to.ensures.start ∙ opened.start; place = omega arith };
     }

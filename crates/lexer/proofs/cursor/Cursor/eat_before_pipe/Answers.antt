@@ -4,4 +4,4 @@ use Rattle.lexer.specs.Psql.{opened_options}
 
 pub returns-then-command : goal.returns-then-command
 returns-then-command g c =
-    moved_by (simp c.if-command.true) (moved_then g.T.Text.bytes (opened_options c.args.command) c.eat-while.ensures c.eat-options.ensures)
+    moved_by (simp c.if-command.true) (moved_then g.T.Text.bytes (opened_options c.args.command) c.eat_while.ensures c.eat_options.ensures)

@@ -9,9 +9,9 @@ pub returns : goal.returns
 unfolding numeric numeric_len
 returns g c =
     let bytes = g.T.Text.bytes in
-    let exponent = c.eat-exponent-empty-exponent-start.ensures in
+    let exponent = c.eat_exponent-empty_exponent_start.ensures in
     record {
-      kind = ap (λ e. Numeric e c.pos-within-token-trailing-junk-start.result) exponent.value
-          ∙ ap (Numeric (empty_exponent (c.args.self.now.place - c.args.self.now.start) (rest bytes c.args.self.now))) (c.pos-within-token-trailing-junk-start.ensures ∙ moved_pos exponent.moved c.requires);
-      moved = moved_then bytes identifier exponent.moved c.eat-identifier.ensures;
+      kind = ap (λ e. Numeric e c.pos_within_token-trailing_junk_start.result) exponent.value
+          ∙ ap (Numeric (empty_exponent (c.args.self.now.place - c.args.self.now.start) (rest bytes c.args.self.now))) (c.pos_within_token-trailing_junk_start.ensures ∙ moved_pos exponent.moved c.requires);
+      moved = moved_then bytes identifier exponent.moved c.eat_identifier.ensures;
     }

@@ -14,20 +14,20 @@ use Rattle.lexer.specs.declared.token.TokenKind.TheVariants.{BlockComment, Liter
 use Rattle.std.proofs.lemmas.List.{drop-drop, get_or-drop}
 use Rattle.std.proofs.lemmas.Bool.{and_parts}
 
-pub prefixed-string-requires : goal.prefixed-string-requires
-prefixed-string-requires g c =
+pub prefixed_string-requires : goal.prefixed_string-requires
+prefixed_string-requires g c =
     let xs = rest g.T.Text.bytes c.args.self.now in
-    eqb-true (peek 0 xs) 39 (fits_as c.args.first-char (peek 0 xs) (peek 1 xs) (Prefixed c.in-Prefixed.prefix) (sym c.in-Prefixed.is ∙ c.requires.begun))
+    eqb-true (peek 0 xs) 39 (fits_as c.args.first_char (peek 0 xs) (peek 1 xs) (Prefixed c.in-Prefixed.prefix) (sym c.in-Prefixed.is ∙ c.requires.begun))
 
 -- the second byte that follows is the first after a move by one
 second : {T : Type 0} (bytes : T → List ℕ) {c d : Cursor T} → Moved c d 1 → peek 0 (rest bytes d) ≡ peek 1 (rest bytes c)
 second bytes {c = c} m = ap (peek 0) (moved_rest bytes m) ∙ get_or-drop 1 (rest bytes c) 0 0
 
-pub prefixed-string-requires-in-UnicodeStr : goal.prefixed-string-requires-in-UnicodeStr
-prefixed-string-requires-in-UnicodeStr g c =
+pub prefixed_string-requires-in-UnicodeStr : goal.prefixed_string-requires-in-UnicodeStr
+prefixed_string-requires-in-UnicodeStr g c =
     let bytes = g.T.Text.bytes in
     let xs = rest bytes c.args.self.now in
-    let asked = fits_as c.args.first-char (peek 0 xs) (peek 1 xs) UnicodeStr (sym c.in-UnicodeStr.is ∙ c.requires.begun) in
+    let asked = fits_as c.args.first_char (peek 0 xs) (peek 1 xs) UnicodeStr (sym c.in-UnicodeStr.is ∙ c.requires.begun) in
     let one = moved_by (next_one xs 37 (eqb-true (peek 0 xs) 38 (and_parts (eqb (peek 0 xs) 38) (eqb (peek 1 xs) 39) asked).0)) c.bump-in-UnicodeStr.ensures.moved in
     second bytes one ∙ eqb-true (peek 1 xs) 39 (and_parts (eqb (peek 0 xs) 38) (eqb (peek 1 xs) 39) asked).1
 
@@ -36,62 +36,62 @@ dollar-requires g c =
     let xs = rest g.T.Text.bytes c.args.self.now in
     record {
       first = c.requires.one;
-      sign = c.requires.first ∙ eqb-true c.args.first-char 36 (fits_as c.args.first-char (peek 0 xs) (peek 1 xs) Dollar (sym c.in-Dollar.is ∙ c.requires.begun));
+      sign = c.requires.first ∙ eqb-true c.args.first_char 36 (fits_as c.args.first_char (peek 0 xs) (peek 1 xs) Dollar (sym c.in-Dollar.is ∙ c.requires.begun));
     }
 
 pub returns-in-Line : goal.returns-in-Line
 returns-in-Line g c =
     let bytes = g.T.Text.bytes in
     let xs = rest bytes c.args.self.now in
-    let asked = fits_as c.args.first-char (peek 0 xs) (peek 1 xs) Line (sym c.in-Line.is ∙ c.requires.begun) in
+    let asked = fits_as c.args.first_char (peek 0 xs) (peek 1 xs) Line (sym c.in-Line.is ∙ c.requires.begun) in
     let one = moved_by (next_one xs 44 (eqb-true (peek 0 xs) 45 asked)) c.bump.ensures.moved in
     record {
-      kind = c.line-comment.ensures.kind ∙ ap (λ s. kind_of s c.args.first-char xs) (sym c.in-Line.is);
-      moved = moved_by (ap (λ s. rest_len s c.args.first-char xs) (sym c.in-Line.is)) (moved_then bytes (run (all_but 10 13)) one c.line-comment.ensures.moved);
+      kind = c.line_comment.ensures.kind ∙ ap (λ s. kind_of s c.args.first_char xs) (sym c.in-Line.is);
+      moved = moved_by (ap (λ s. rest_len s c.args.first_char xs) (sym c.in-Line.is)) (moved_then bytes (run (all_but 10 13)) one c.line_comment.ensures.moved);
     }
 
 pub returns-in-Block : goal.returns-in-Block
 returns-in-Block g c =
     let bytes = g.T.Text.bytes in
     let xs = rest bytes c.args.self.now in
-    let asked = fits_as c.args.first-char (peek 0 xs) (peek 1 xs) Block (sym c.in-Block.is ∙ c.requires.begun) in
+    let asked = fits_as c.args.first_char (peek 0 xs) (peek 1 xs) Block (sym c.in-Block.is ∙ c.requires.begun) in
     let one = moved_by (next_one xs 41 (eqb-true (peek 0 xs) 42 asked)) c.bump-in-Block.ensures.moved in
     record {
-      kind = c.block-comment.ensures.kind ∙ ap (λ l. BlockComment (comment_closed 1 l)) (moved_rest bytes one) ∙ ap (λ s. kind_of s c.args.first-char xs) (sym c.in-Block.is);
-      moved = moved_by (ap (λ s. rest_len s c.args.first-char xs) (sym c.in-Block.is)) (moved_then bytes (comment 1) one c.block-comment.ensures.moved);
+      kind = c.block_comment.ensures.kind ∙ ap (λ l. BlockComment (comment_closed 1 l)) (moved_rest bytes one) ∙ ap (λ s. kind_of s c.args.first_char xs) (sym c.in-Block.is);
+      moved = moved_by (ap (λ s. rest_len s c.args.first_char xs) (sym c.in-Block.is)) (moved_then bytes (comment 1) one c.block_comment.ensures.moved);
     }
 
 pub returns-in-UnicodeStr : goal.returns-in-UnicodeStr
 returns-in-UnicodeStr g c =
     let bytes = g.T.Text.bytes in
     let xs = rest bytes c.args.self.now in
-    let asked = fits_as c.args.first-char (peek 0 xs) (peek 1 xs) UnicodeStr (sym c.in-UnicodeStr.is ∙ c.requires.begun) in
+    let asked = fits_as c.args.first_char (peek 0 xs) (peek 1 xs) UnicodeStr (sym c.in-UnicodeStr.is ∙ c.requires.begun) in
     let one = moved_by (next_one xs 37 (eqb-true (peek 0 xs) 38 (and_parts (eqb (peek 0 xs) 38) (eqb (peek 1 xs) 39) asked).0)) c.bump-in-UnicodeStr.ensures.moved in
     let body = ap (drop 1) (moved_rest bytes one) ∙ drop-drop 1 1 xs in
     let len : 1 + (1 + quoted 39 false (drop 1 (drop 1 xs))) ≡ 2 + quoted 39 false (drop 2 xs) = omega (arith, ap (quoted 39 false) (drop-drop 1 1 xs)) in
     record {
-      kind = c.prefixed-string-in-UnicodeStr.ensures.kind ∙ ap (λ l. Literal (UnicodeEscStr (quoted_closed 39 false l))) body ∙ ap (λ s. kind_of s c.args.first-char xs) (sym c.in-UnicodeStr.is);
-      moved = moved_by (len ∙ ap (λ s. rest_len s c.args.first-char xs) (sym c.in-UnicodeStr.is)) (moved_then bytes (λ l. 1 + quoted 39 false (drop 1 l)) one c.prefixed-string-in-UnicodeStr.ensures.moved);
+      kind = c.prefixed_string-in-UnicodeStr.ensures.kind ∙ ap (λ l. Literal (UnicodeEscStr (quoted_closed 39 false l))) body ∙ ap (λ s. kind_of s c.args.first_char xs) (sym c.in-UnicodeStr.is);
+      moved = moved_by (len ∙ ap (λ s. rest_len s c.args.first_char xs) (sym c.in-UnicodeStr.is)) (moved_then bytes (λ l. 1 + quoted 39 false (drop 1 l)) one c.prefixed_string-in-UnicodeStr.ensures.moved);
     }
 
 pub returns-in-UnicodeIdent : goal.returns-in-UnicodeIdent
 returns-in-UnicodeIdent g c =
     let bytes = g.T.Text.bytes in
     let xs = rest bytes c.args.self.now in
-    let asked = fits_as c.args.first-char (peek 0 xs) (peek 1 xs) UnicodeIdent (sym c.in-UnicodeIdent.is ∙ c.requires.begun) in
+    let asked = fits_as c.args.first_char (peek 0 xs) (peek 1 xs) UnicodeIdent (sym c.in-UnicodeIdent.is ∙ c.requires.begun) in
     let one = moved_by (next_one xs 37 (eqb-true (peek 0 xs) 38 (and_parts (eqb (peek 0 xs) 38) (eqb (peek 1 xs) 34) asked).0)) c.bump-in-UnicodeIdent.ensures.moved in
     let quote = second bytes one ∙ eqb-true (peek 1 xs) 34 (and_parts (eqb (peek 0 xs) 38) (eqb (peek 1 xs) 34) asked).1 in
     let two = moved_trans one (moved_by (next_one _ 33 quote) c.bump-in-UnicodeIdent-2.ensures.moved) in
     record {
-      kind = ap (λ b. QuotedIdent b true) (c.double-quoted-string-terminated.ensures.closed ∙ ap (quoted_closed 34 false) (moved_rest bytes two)) ∙ ap (λ s. kind_of s c.args.first-char xs) (sym c.in-UnicodeIdent.is);
-      moved = moved_by (ap (λ s. rest_len s c.args.first-char xs) (sym c.in-UnicodeIdent.is)) (moved_then bytes (quoted 34 false) two c.double-quoted-string-terminated.ensures.moved);
+      kind = ap (λ b. QuotedIdent b true) (c.double_quoted_string-terminated.ensures.closed ∙ ap (quoted_closed 34 false) (moved_rest bytes two)) ∙ ap (λ s. kind_of s c.args.first_char xs) (sym c.in-UnicodeIdent.is);
+      moved = moved_by (ap (λ s. rest_len s c.args.first_char xs) (sym c.in-UnicodeIdent.is)) (moved_then bytes (quoted 34 false) two c.double_quoted_string-terminated.ensures.moved);
     }
 
 pub returns-in-TwoDots : goal.returns-in-TwoDots
 returns-in-TwoDots g c =
     let xs = rest g.T.Text.bytes c.args.self.now in
-    let asked = fits_as c.args.first-char (peek 0 xs) (peek 1 xs) TwoDots (sym c.in-TwoDots.is ∙ c.requires.begun) in
+    let asked = fits_as c.args.first_char (peek 0 xs) (peek 1 xs) TwoDots (sym c.in-TwoDots.is ∙ c.requires.begun) in
     record {
-      kind = ap (λ s. kind_of s c.args.first-char xs) (sym c.in-TwoDots.is);
-      moved = moved_by (next_one xs 45 (eqb-true (peek 0 xs) 46 asked) ∙ ap (λ s. rest_len s c.args.first-char xs) (sym c.in-TwoDots.is)) c.bump-in-TwoDots.ensures.moved;
+      kind = ap (λ s. kind_of s c.args.first_char xs) (sym c.in-TwoDots.is);
+      moved = moved_by (next_one xs 45 (eqb-true (peek 0 xs) 46 asked) ∙ ap (λ s. rest_len s c.args.first_char xs) (sym c.in-TwoDots.is)) c.bump-in-TwoDots.ensures.moved;
     }

@@ -11,32 +11,32 @@ pub returns-in-Binary : goal.returns-in-Binary
 returns-in-Binary g c =
     let bytes = g.T.Text.bytes in
     let xs = rest bytes c.args.self.now in
-    let base = c.in-Binary.ensures ∙ ap (base_of c.args.first-digit) c.first.ensures in
-    let is = number_in c.args.first-digit (c.args.self.now.place - c.args.self.now.start) xs Binary base in
-    let letter = moved_by (prefix_letter c.args.first-digit xs Binary base refl) c.bump.ensures.moved in
-    record { kind = said_then bytes (based Binary decimal) letter c.requires c.based-int.ensures.kind ∙ is.0; moved = moved_by is.1 (moved_then bytes (based_len decimal) letter c.based-int.ensures.moved) }
+    let base = c.in-Binary.ensures ∙ ap (base_of c.args.first_digit) c.first.ensures in
+    let is = number_in c.args.first_digit (c.args.self.now.place - c.args.self.now.start) xs Binary base in
+    let letter = moved_by (prefix_letter c.args.first_digit xs Binary base refl) c.bump.ensures.moved in
+    record { kind = said_then bytes (based Binary decimal) letter c.requires c.based_int.ensures.kind ∙ is.0; moved = moved_by is.1 (moved_then bytes (based_len decimal) letter c.based_int.ensures.moved) }
 
 pub returns-in-Octal : goal.returns-in-Octal
 returns-in-Octal g c =
     let bytes = g.T.Text.bytes in
     let xs = rest bytes c.args.self.now in
-    let base = c.in-Octal.ensures ∙ ap (base_of c.args.first-digit) c.first.ensures in
-    let is = number_in c.args.first-digit (c.args.self.now.place - c.args.self.now.start) xs Octal base in
-    let letter = moved_by (prefix_letter c.args.first-digit xs Octal base refl) c.bump-in-Octal.ensures.moved in
-    record { kind = said_then bytes (based Octal decimal) letter c.requires c.based-int-in-Octal.ensures.kind ∙ is.0; moved = moved_by is.1 (moved_then bytes (based_len decimal) letter c.based-int-in-Octal.ensures.moved) }
+    let base = c.in-Octal.ensures ∙ ap (base_of c.args.first_digit) c.first.ensures in
+    let is = number_in c.args.first_digit (c.args.self.now.place - c.args.self.now.start) xs Octal base in
+    let letter = moved_by (prefix_letter c.args.first_digit xs Octal base refl) c.bump-in-Octal.ensures.moved in
+    record { kind = said_then bytes (based Octal decimal) letter c.requires c.based_int-in-Octal.ensures.kind ∙ is.0; moved = moved_by is.1 (moved_then bytes (based_len decimal) letter c.based_int-in-Octal.ensures.moved) }
 
 pub returns-in-Hexadecimal : goal.returns-in-Hexadecimal
 returns-in-Hexadecimal g c =
     let bytes = g.T.Text.bytes in
     let xs = rest bytes c.args.self.now in
-    let base = c.in-Hexadecimal.ensures ∙ ap (base_of c.args.first-digit) c.first.ensures in
-    let is = number_in c.args.first-digit (c.args.self.now.place - c.args.self.now.start) xs Hexadecimal base in
-    let letter = moved_by (prefix_letter c.args.first-digit xs Hexadecimal base refl) c.bump-in-Hexadecimal.ensures.moved in
-    record { kind = said_then bytes (based Hexadecimal hexadecimal) letter c.requires c.based-int-in-Hexadecimal.ensures.kind ∙ is.0; moved = moved_by is.1 (moved_then bytes (based_len hexadecimal) letter c.based-int-in-Hexadecimal.ensures.moved) }
+    let base = c.in-Hexadecimal.ensures ∙ ap (base_of c.args.first_digit) c.first.ensures in
+    let is = number_in c.args.first_digit (c.args.self.now.place - c.args.self.now.start) xs Hexadecimal base in
+    let letter = moved_by (prefix_letter c.args.first_digit xs Hexadecimal base refl) c.bump-in-Hexadecimal.ensures.moved in
+    record { kind = said_then bytes (based Hexadecimal hexadecimal) letter c.requires c.based_int-in-Hexadecimal.ensures.kind ∙ is.0; moved = moved_by is.1 (moved_then bytes (based_len hexadecimal) letter c.based_int-in-Hexadecimal.ensures.moved) }
 
 pub returns-in-Decimal : goal.returns-in-Decimal
 returns-in-Decimal g c =
     let xs = rest g.T.Text.bytes c.args.self.now in
-    let base = c.in-Decimal.ensures ∙ ap (base_of c.args.first-digit) c.first.ensures in
-    let is = number_in c.args.first-digit (c.args.self.now.place - c.args.self.now.start) xs Decimal base in
+    let base = c.in-Decimal.ensures ∙ ap (base_of c.args.first_digit) c.first.ensures in
+    let is = number_in c.args.first_digit (c.args.self.now.place - c.args.self.now.start) xs Decimal base in
     record { kind = c.decimal_number.ensures.kind ∙ is.0; moved = moved_by is.1 c.decimal_number.ensures.moved }

@@ -7,6 +7,6 @@ use Rattle.std.proofs.Common.{ap, ◌∙◌}
 pub returns : goal.returns
 returns g c =
     record {
-      kind = ap PositionalParam (c.pos-within-token-trailing-junk-start.ensures ∙ moved_pos c.eat-while.ensures c.requires);
-      moved = moved_then g.T.Text.bytes identifier c.eat-while.ensures c.eat-identifier.ensures;
+      kind = ap PositionalParam (c.pos_within_token-trailing_junk_start.ensures ∙ moved_pos c.eat_while.ensures c.requires);
+      moved = moved_then g.T.Text.bytes identifier c.eat_while.ensures c.eat_identifier.ensures;
     }

@@ -11,9 +11,9 @@ returns g c =
     let opened : Moved c.args.self.now c.bump.new.self 1 = moved_by (next_one xs 38 c.requires) c.bump.ensures.moved in
     let after = moved_rest g.T.Text.bytes opened in
     let e = has_escapes c.args.prefix in
-    let body = c.single-quoted-string-terminated in
-    let closed : body.result ≡ quoted_closed 39 e (drop 1 xs) = body.ensures.closed ∙ ap (λ b. quoted_closed 39 b (rest g.T.Text.bytes c.bump.new.self)) c.backslash-escapes.ensures ∙ ap (quoted_closed 39 e) after in
+    let body = c.single_quoted_string-terminated in
+    let closed : body.result ≡ quoted_closed 39 e (drop 1 xs) = body.ensures.closed ∙ ap (λ b. quoted_closed 39 b (rest g.T.Text.bytes c.bump.new.self)) c.backslash_escapes.ensures ∙ ap (quoted_closed 39 e) after in
     record {
       kind = ap Literal (c.literal.ensures ∙ ap (prefix_literal c.args.prefix) closed);
-      moved = moved_then g.T.Text.bytes (quoted 39 e) opened (moved_by (ap (λ b. quoted 39 b (rest g.T.Text.bytes c.bump.new.self)) c.backslash-escapes.ensures) body.ensures.moved);
+      moved = moved_then g.T.Text.bytes (quoted 39 e) opened (moved_by (ap (λ b. quoted 39 b (rest g.T.Text.bytes c.bump.new.self)) c.backslash_escapes.ensures) body.ensures.moved);
     }

@@ -12,10 +12,10 @@ module _ (xs : List ℕ) (a : peek 0 xs ≡ 92 → ⊥) (b : peek 0 xs ≡ 59 �
   word_len : command_len xs ≡ psql_len xs
   word_len = simp (ne_eqb (peek 0 xs) 92 a, ne_eqb (peek 0 xs) 59 b, ne_eqb (peek 0 xs) 58 d)
 
-pub returns-in-default : goal.returns-in-default
-returns-in-default g c =
+pub returns-in_default : goal.returns-in_default
+returns-in_default g c =
     let xs = rest g.T.Text.bytes c.args.self.now in
     let a : peek 0 xs ≡ 92 → ⊥ = λ e. omega arith in
     let b : peek 0 xs ≡ 59 → ⊥ = λ e. omega arith in
     let d : peek 0 xs ≡ 58 → ⊥ = λ e. omega arith in
-    record { kind = c.psql-word.ensures.kind ∙ word_kind xs a b d; moved = moved_by (word_len xs a b d) c.psql-word.ensures.moved }
+    record { kind = c.psql_word.ensures.kind ∙ word_kind xs a b d; moved = moved_by (word_len xs a b d) c.psql_word.ensures.moved }

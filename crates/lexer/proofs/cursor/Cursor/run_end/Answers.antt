@@ -2,8 +2,8 @@ use Rattle.lexer.proofs.Rest.{inside, run_here, run_past}
 use Rattle.lexer.proofs.cursor.Cursor.run_end.Goals as goal
 use Rattle.std.proofs.Common.{sym, ◌∙◌, arith, rules}
 
-pub overflow-add-place : goal.overflow-add-place
-overflow-add-place g c =
+pub overflow_add-place : goal.overflow_add-place
+overflow_add-place g c =
     let within = inside (g.T.Text.bytes c.args.self.now.text.now) c.loop-byte.place c.in-Some.byte c.in-Some.ensures in
     let short = g.T.Text.short c.args.self.now.text.now in
     search rules
@@ -24,7 +24,7 @@ returns-then-not-has g c =
     let not = sym c.has.ensures ∙ c.if-not-has.true in
     omega (arith, simp not at more)
 
-pub returns-in-default : goal.returns-in-default
-returns-in-default g c =
-    let none = run_past (g.T.Text.bytes c.args.self.now.text.now) c.loop-byte.place c.in-default.ensures (g.C.Class.holds c.args.class.now) in
+pub returns-in_default : goal.returns-in_default
+returns-in_default g c =
+    let none = run_past (g.T.Text.bytes c.args.self.now.text.now) c.loop-byte.place c.in_default.ensures (g.C.Class.holds c.args.class.now) in
     omega arith

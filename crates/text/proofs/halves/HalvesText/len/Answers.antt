@@ -3,8 +3,8 @@ use Rattle.std.proofs.Common.{length-append, rules}
 use Rattle.text.proofs.Clipped.{length-clip}
 use Rattle.text.proofs.halves.HalvesText.len.Goals as goal
 
-pub overflow-add-result : goal.overflow-add-result
-overflow-add-result c = search (rules, length-clip)
+pub overflow_add-result : goal.overflow_add-result
+overflow_add-result c = search (rules, length-clip)
 
 pub returns : goal.returns
 returns c = search (rules, length-append)
