@@ -1,6 +1,6 @@
 -- One turn of the comment loop.
 use Rattle.std.proofs.Common.{◌≡◌, ℕ, zero, suc, ◌+◌, ◌-◌, ◌<◌, ◌≤◌, Bool, true, false, cond, ◌&&◌, eqb, ◌⊎◌, List, [], ◌∷◌, length, get_or, drop, Some, None, sym, refl, ap, ◌∙◌, inl, inr, arith, eq-eqb, ne_eqb}
-use Rattle.lexer.proofs.Rest.{here, past, within}
+use Rattle.lexer.proofs.Rest.{here, past}
 use Rattle.lexer.specs.Comment.{closes, comment, comment_closed, opens}
 use Rattle.std.proofs.lemmas.List.{drop-drop, get_or-drop}
 use Rattle.std.proofs.lemmas.Bool.{cond_both}

@@ -1,5 +1,5 @@
 -- Lists that begin with another, one turn of the search for a delimiter, and how far dollar-quoted strings reach.
-use Rattle.std.proofs.Common.{◌≡◌, ℕ, suc, ◌+◌, ◌<◌, ◌≤◌, Bool, true, false, cond, ◌&&◌, eqb, List, [], ◌∷◌, length, get_or, take, drop, sym, refl, ap, ◌∙◌, inl, inr, arith, eqb-true}
+use Rattle.std.proofs.Common.{◌≡◌, ℕ, suc, ◌+◌, ◌<◌, ◌≤◌, true, false, cond, ◌&&◌, eqb, List, [], ◌∷◌, length, get_or, take, drop, sym, refl, ap, ◌∙◌, inl, inr, arith, eqb-true}
 use Rattle.lexer.proofs.Moves.{moved_by, moved_rest, moved_trans, next_one}
 use Rattle.lexer.proofs.Rest.{within}
 use Rattle.lexer.proofs.Runs.{identifier_within, run_within, then_within}

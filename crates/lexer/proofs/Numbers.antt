@@ -2,10 +2,10 @@
 use Rattle.std.proofs.Common.{◌≡◌, ℕ, ◌+◌, ◌≤◌, Bool, true, false, cond, not, ◌&&◌, eqb, List, [], ◌∷◌, length, drop, Some, None, sym, refl, ap, ◌∙◌, arith}
 use Rattle.lexer.specs.Class.{decimal, hexadecimal}
 use Rattle.lexer.specs.Cursor.{digit_met, digits, identifier, next_len, peek}
-use Rattle.lexer.specs.Number.{after_digits, after_digits_len, base_of, based, based_len, decimal_len, decimal_number, empty_exponent, exponent, exponent_digits, exponent_mark, exponent_tail, fraction, fractional, fractional_len, has_point, in_base, in_base_len, number, number_len, numeric, numeric_len, sign}
+use Rattle.lexer.specs.Number.{after_digits, after_digits_len, base_of, based, based_len, decimal_len, empty_exponent, exponent, exponent_digits, exponent_mark, exponent_tail, fraction, fractional, fractional_len, has_point, in_base, in_base_len, number, number_len, numeric, numeric_len, sign}
 use Rattle.lexer.specs.declared.token.Base.{Base}
 use Rattle.lexer.specs.declared.token.Base.TheVariants.{Binary, Octal, Decimal, Hexadecimal}
-use Rattle.lexer.specs.declared.token.LiteralKind.TheVariants.{Int, Numeric}
+use Rattle.lexer.specs.declared.token.LiteralKind.TheVariants.{Int}
 use Rattle.lexer.proofs.Moves.{next_in_lem, unmoved}
 use Rattle.lexer.proofs.Runs.{digits_within, identifier_within, then_within}
 use Rattle.std.proofs.lemmas.Bool.{cond_both}

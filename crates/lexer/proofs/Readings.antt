@@ -1,5 +1,5 @@
 -- Tokens read one after another from a text's start to its end are its cut.
-use Rattle.std.proofs.Common.{◌≡◌, ℕ, zero, suc, ◌+◌, ◌<◌, List, [], ◌∷◌, length, take, drop, Some, None, sym, refl, ap, ◌∙◌, subst, arith}
+use Rattle.std.proofs.Common.{◌≡◌, ℕ, zero, suc, ◌+◌, List, [], ◌∷◌, length, take, drop, Some, sym, refl, ap, ◌∙◌, subst, arith}
 use Rattle.lexer.proofs.Cuts.{adds_up, reads_cut}
 use Rattle.lexer.specs.Cut.{cut, lengths}
 use Rattle.lexer.specs.Laws.{NoneEmpty, border}

@@ -1,6 +1,6 @@
 -- What the byte at a place says of the bytes that follow it.
 use Rattle.std.proofs.Common.{◌≡◌, ℕ, zero, suc, ◌+◌, ◌<◌, ◌≤◌, Bool, true, false, cond, not, ◌&&◌, ◌||◌, eqb, List, [], ◌∷◌, length, get_or, drop, is_some, Some, None, unwrap_or, sym, refl, ap, ◌∙◌, arith}
-use Rattle.lexer.specs.Cursor.{at_end, digit_met, digits, leads, next_len, peek, run}
+use Rattle.lexer.specs.Cursor.{at_end, digit_met, digits, leads, peek, run}
 use Rattle.std.proofs.lemmas.List.{drop_all, drop_more}
 use Rattle.std.specs.List.{slice_get}
 

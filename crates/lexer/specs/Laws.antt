@@ -1,5 +1,5 @@
 -- What holds of the cut of every text.
-use Rattle.std.specs.Prelude.{◌≡◌, ℕ, ◌+◌, ◌<◌, ◌≤◌, List, [], ◌∷◌, length, take, drop}
+use Rattle.std.specs.Prelude.{◌≡◌, ℕ, ◌<◌, ◌≤◌, List, [], ◌∷◌, length, take, drop}
 use Rattle.lexer.specs.Cut.{cut, lengths}
 use Rattle.lexer.specs.Lex.{token_at}
 use Rattle.lexer.specs.declared.token.Token.{Token}

@@ -1,10 +1,9 @@
 -- An input that is not too long is a flat text as it stands.
-use Rattle.std.proofs.Common.{◌≡◌, ℕ, ◌≤◌, Bool, true, false, cond, ltb, List, length, Ok, Err, Result, sym, refl, ap, ◌∙◌, arith}
+use Rattle.std.proofs.Common.{◌≡◌, ℕ, ◌≤◌, true, false, cond, ltb, List, length, Ok, Err, refl, ap, arith}
 use Rattle.std.proofs.lemmas.List.{take_all}
 use Rattle.std.proofs.lemmas.Bool.{le-ltb, ltb-false}
 use Rattle.text.specs.Clip.{clip}
 use Rattle.text.specs.Fit.{checked}
-use Rattle.listing.specs.declared.fault.ProgramFault.{ProgramFault}
 use Rattle.listing.specs.declared.fault.ProgramFault.TheVariants.{InputTooLong}
 use Rattle.listing.specs.Faults.{longest_input}
 use Rattle.listing.specs.Listed.{admitted, in_text}

@@ -1,5 +1,5 @@
 -- The kinds of tokens as words: their names and their fields.
-use Rattle.std.specs.Prelude.{ℕ, Bool, true, false, cond, List, [], ◌∷◌, ◌++◌, Some, None, codes, decimal, Option}
+use Rattle.std.specs.Prelude.{ℕ, cond, List, [], ◌++◌, Some, None, codes, decimal, Option}
 use Rattle.lexer.specs.Token.{base_number}
 use Rattle.lexer.specs.declared.token.LiteralKind.{LiteralKind}
 use Rattle.lexer.specs.declared.token.LiteralKind.TheVariants.{Int, Numeric, Str, NationalStr, ByteStr, BitStr, DollarQuotedString, UnicodeEscStr, EscStr}

@@ -1,5 +1,5 @@
 -- What the program writes for an input.
-use Rattle.std.specs.Prelude.{◌≡◌, ℕ, ◌+◌, Bool, true, false, cond, List, [], ◌∷◌, ◌++◌, length, take, drop, Ok, Err, string_bytes, Result, nat_lt}
+use Rattle.std.specs.Prelude.{◌≡◌, ℕ, ◌+◌, true, false, cond, List, [], ◌∷◌, ◌++◌, length, take, drop, Ok, Err, string_bytes, Result, nat_lt}
 use Rattle.text.specs.Fit.{checked}
 use Rattle.text.specs.declared.fault.TextFault.{TextFault}
 use Rattle.lexer.specs.Cut.{cut, lengths}

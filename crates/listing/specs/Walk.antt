@@ -6,7 +6,7 @@ use Rattle.statement.specs.Ends.{first_state, next_state, end_after, solid}
 use Rattle.listing.specs.declared.lines.EndLine.{EndLine}
 use Rattle.listing.specs.declared.lines.TotalLine.{TotalLine}
 use Rattle.listing.specs.declared.walk.Walk.{Walk}
-use Rattle.listing.specs.Lines.{token_bytes, end_bytes, total_bytes}
+use Rattle.listing.specs.Lines.{token_bytes, end_bytes}
 
 -- before the first token
 abbrev pub at_front : Walk

@@ -1,12 +1,10 @@
 -- The depth is how many parentheses are left open.
-use Rattle.std.proofs.Common.{◌≡◌, ℕ, suc, ◌+◌, ◌<◌, ◌≤◌, Bool, true, false, cond, ◌&&◌, eqb, List, [], ◌∷◌, ◌++◌, length, Some, None, Option, sym, refl, ap, ◌∙◌, subst, arith}
+use Rattle.std.proofs.Common.{◌≡◌, ℕ, ◌+◌, ◌≤◌, true, false, cond, ◌&&◌, eqb, List, [], ◌∷◌, length, Some, None, sym, refl, ap, ◌∙◌, subst, arith}
 use Rattle.std.proofs.lemmas.Bool.{eq-eqb, eqb-true, and_parts, and_from}
 use Rattle.lexer.specs.declared.token.Token.{Token}
-use Rattle.lexer.specs.declared.token.TokenKind.TheVariants.{Semi}
-use Rattle.statement.specs.declared.Cause.{Cause}
 use Rattle.statement.specs.declared.Cause.TheVariants.{Semicolon}
 use Rattle.statement.specs.Roles.{Role, blank, plain, opening, closing, semicolon, command, role}
-use Rattle.statement.specs.Ends.{role_state, next_state, own_end, role_end}
+use Rattle.statement.specs.Ends.{role_state, own_end, role_end}
 use Rattle.statement.specs.Statements.{state_after}
 use Rattle.statement.specs.Laws.{opens, closes, ends_query, openings, closings, Unbroken, OpenAtMost, DepthCounts, SemicolonEnds}
 

@@ -1,5 +1,5 @@
 -- The statements of a list of tokens share its tokens out among them.
-use Rattle.std.proofs.Common.{◌≡◌, ℕ, ◌+◌, ◌<◌, ◌≤◌, Bool, true, false, cond, eqb, List, [], ◌∷◌, ◌++◌, length, Some, None, sym, refl, ap, ◌∙◌, arith}
+use Rattle.std.proofs.Common.{◌≡◌, ℕ, ◌+◌, cond, eqb, List, [], ◌∷◌, length, Some, None, refl, arith}
 use Rattle.lexer.specs.declared.token.Token.{Token}
 use Rattle.statement.specs.Ends.{solid, next_state, end_after}
 use Rattle.statement.specs.Statements.{solids, statements_on}

@@ -1,5 +1,5 @@
 -- The statements of a list of tokens.
-use Rattle.std.specs.Prelude.{ℕ, ◌+◌, Bool, true, false, cond, List, [], ◌∷◌, length, Some, None, Option, MatchOption, ◌==◌}
+use Rattle.std.specs.Prelude.{ℕ, ◌+◌, cond, List, [], ◌∷◌, length, Some, None, Option, ◌==◌}
 use Rattle.lexer.specs.declared.token.Token.{Token}
 use Rattle.statement.specs.declared.Cause.{Cause}
 use Rattle.statement.specs.declared.Statement.{Statement}

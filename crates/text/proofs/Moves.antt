@@ -1,7 +1,6 @@
 -- The checker's move, state by state, is the one that the table says.
 use Rattle.std.proofs.Common.{◌≡◌, ℕ, cond, leb, refl, arith}
 use Rattle.std.proofs.lemmas.Bool.Decides.{nat_tests}
-use Rattle.text.specs.Utf8.{table}
 use Rattle.text.specs.Checker.{progress, step}
 use Rattle.text.specs.declared.utf8.State.{State}
 use Rattle.text.specs.declared.utf8.State.TheVariants.{Between, OneOfTwo, AfterE0, OneOfThree, AfterED, AfterF0, OneOfFour, AfterF4, TwoOfThree, TwoOfFour, ThreeOfFour, Ill}

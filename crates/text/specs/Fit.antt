@@ -12,7 +12,7 @@ checked bs =
     cond (nat_lt longest (length bs)) (Err TooLong)
     (cond (sound bs == length bs) (Ok tt) (Err (IllFormed (sound bs))))
 
--- The table agrees with the encoding of characters: a list is well formed exactly if it is `Utf8`, the encodings
+-- The table agrees with the encoding of characters: a list is well formed exactly if it is `IsUtf8`, the encodings
 -- of scalar values one after another.
 abbrev pub TableIsUtf8 : Type 0
 TableIsUtf8 = (bs : List ℕ) → (WellFormed bs → IsUtf8 bs) × (IsUtf8 bs → WellFormed bs)

@@ -1,9 +1,9 @@
-use Rattle.std.proofs.Common.{◌≡◌, ◌+◌, ◌<◌, ◌≤◌, ◌++◌, length, string_bytes, sym, refl, ap, ◌∙◌, subst, arith, rules}
+use Rattle.std.proofs.Common.{◌++◌, length, string_bytes, sym, refl, ap, ◌∙◌, subst, arith}
 use Rattle.lexer.proofs.Readings.{reads_all}
 use Rattle.listing.specs.Lines.{total_bytes}
 use Rattle.listing.specs.Listed.{listed}
 use Rattle.listing.specs.Walk.{Within, end_there}
-use Rattle.listing.proofs.Walks.{Walking, within_past, place-past, walking_none, walking_more, walking_cover, walking_all}
+use Rattle.listing.proofs.Walks.{Walking, within_past, place-past, walking_more, walking_cover, walking_all}
 use Rattle.listing.proofs.Statements.{walk_lists}
 use Rattle.listing.proofs.list_tokens.Goals as goal
 

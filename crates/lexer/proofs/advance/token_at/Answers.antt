@@ -1,4 +1,4 @@
-use Rattle.std.proofs.Common.{◌≡◌, ◌<◌, ◌&&◌, eqb, length, drop, sym, refl, ap, ◌∙◌, subst, arith, rules, eqb-true}
+use Rattle.std.proofs.Common.{◌<◌, ◌&&◌, eqb, length, drop, sym, refl, ap, ◌∙◌, subst, arith, rules, eqb-true}
 use Rattle.lexer.proofs.AllLaws.{all_laws}
 use Rattle.lexer.proofs.Rest.{within}
 use Rattle.lexer.proofs.Within.{Stands, token_stands}

@@ -1,4 +1,4 @@
-use Rattle.std.proofs.Common.{◌≡◌, ℕ, suc, ◌+◌, ◌-◌, ◌<◌, drop, sym, ap, ◌∙◌, arith, rules, eq-eqb, ne_eqb}
+use Rattle.std.proofs.Common.{◌+◌, drop, sym, ap, ◌∙◌, arith, rules, eq-eqb, ne_eqb}
 use Rattle.lexer.proofs.Comments.{closed, closed_none, closed_past, comment_none, comment_past, not_both, opened, unmarked}
 use Rattle.lexer.proofs.Rest.{inside, within}
 use Rattle.lexer.proofs.comment.comment_end.Goals as goal

@@ -2,7 +2,7 @@
 use Rattle.records.proofs.Digits.{bytes_before, decoded_at, decoded_single, decoded_past, bytes_before_push}
 use Rattle.records.proofs.hex.decode.Goals as goal
 use Rattle.records.specs.Hex.{before, decoded}
-use Rattle.std.proofs.Common.{◌≡◌, ◌+◌, ◌<◌, length, drop, Some, vec_items, sym, ap, ◌∙◌, append-nil, arith}
+use Rattle.std.proofs.Common.{◌+◌, ◌<◌, length, drop, Some, vec_items, sym, ap, ◌∙◌, append-nil, arith}
 
 pub returns-then-place-digits : goal.returns-then-place-digits
 returns-then-place-digits c =

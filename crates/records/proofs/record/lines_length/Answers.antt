@@ -1,5 +1,5 @@
 -- A byte 10 where a line starts is an empty line; any other byte belongs to the lines before it.
-use Rattle.std.proofs.Common.{◌≡◌, ◌<◌, true, false, ◌&&◌, eqb, length, get_or, ap, ◌∙◌, arith, eq-eqb, ne_eqb}
+use Rattle.std.proofs.Common.{◌≡◌, ◌<◌, false, ◌&&◌, eqb, length, get_or, ap, ◌∙◌, arith, eq-eqb, ne_eqb}
 use Rattle.records.proofs.Lines.{and_false, lines_length_empty, lines_length_more, lines_length_past}
 use Rattle.records.proofs.record.lines_length.Goals as goal
 use Rattle.records.proofs.record.lines_length.Goals.{else-starts-via-else-starts, else-starts-via-then-starts+else-byte-eq10}

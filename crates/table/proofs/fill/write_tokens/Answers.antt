@@ -1,4 +1,4 @@
-use Rattle.std.proofs.Common.{◌≡◌, ◌+◌, ◌<◌, ◌≤◌, ◌++◌, length, drop, sym, ap, ◌∙◌, arith}
+use Rattle.std.proofs.Common.{◌+◌, ◌<◌, ◌≤◌, ◌++◌, length, drop, sym, ap, ◌∙◌, arith}
 use Rattle.lexer.specs.Cut.{cut}
 use Rattle.std.proofs.lemmas.List.{drop-drop, drop-set-lt, take_all, take-append-drop}
 use Rattle.table.proofs.Readings.{slice_get_below, reading_all, reading_more, reading_next, take_written}

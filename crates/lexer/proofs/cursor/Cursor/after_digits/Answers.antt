@@ -1,10 +1,10 @@
-use Rattle.std.proofs.Common.{◌≡◌, ◌+◌, ◌-◌, false, not, ◌&&◌, eqb, sym, refl, ap, ◌∙◌}
+use Rattle.std.proofs.Common.{◌≡◌, ◌-◌, false, not, ◌&&◌, eqb, sym, refl, ap, ◌∙◌}
 use Rattle.lexer.proofs.Moves.{moved_by, moved_then, next_in_lem, said_then}
 use Rattle.lexer.proofs.Numbers.{with_exponent, with_neither, with_point}
 use Rattle.lexer.proofs.cursor.Cursor.after_digits.Given as given
 use Rattle.lexer.proofs.cursor.Cursor.after_digits.Goals as goal
 use Rattle.lexer.proofs.cursor.Cursor.after_digits.Goals.{After-is_point}
-use Rattle.lexer.specs.Cursor.{identifier, peek, rest}
+use Rattle.lexer.specs.Cursor.{peek, rest}
 use Rattle.lexer.specs.Number.{exponent_mark, fractional, fractional_len, has_point}
 use Rattle.lexer.specs.declared.token.Base.TheVariants.{Decimal}
 use Rattle.lexer.specs.declared.token.LiteralKind.TheVariants.{Int}

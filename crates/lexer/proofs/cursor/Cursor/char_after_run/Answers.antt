@@ -1,4 +1,4 @@
-use Rattle.std.proofs.Common.{◌+◌, sym, ap, ◌∙◌}
+use Rattle.std.proofs.Common.{sym, ap, ◌∙◌}
 use Rattle.lexer.proofs.Rest.{nth_drop, peek_none, peek_some}
 use Rattle.lexer.proofs.cursor.Cursor.char_after_run.Goals as goal
 use Rattle.lexer.specs.Cursor.{rest, run}

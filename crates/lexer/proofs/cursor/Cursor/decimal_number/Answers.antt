@@ -1,4 +1,4 @@
-use Rattle.lexer.proofs.Moves.{moved_order, moved_then, said_then}
+use Rattle.lexer.proofs.Moves.{moved_then, said_then}
 use Rattle.lexer.proofs.cursor.Cursor.decimal_number.Goals as goal
 use Rattle.lexer.specs.Number.{after_digits, after_digits_len, decimal_len, decimal_number}
 

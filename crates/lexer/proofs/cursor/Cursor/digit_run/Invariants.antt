@@ -1,4 +1,4 @@
-use Rattle.std.proofs.Common.{◌≡◌, ◌+◌, ◌-◌, ◌≤◌, ◌||◌, length, drop}
+use Rattle.std.proofs.Common.{◌≡◌, ◌+◌, ◌-◌, ◌||◌, length, drop}
 use Rattle.lexer.proofs.cursor.Cursor.digit_run.Given as goal
 use Rattle.lexer.specs.Cursor.{digit_met, digits}
 

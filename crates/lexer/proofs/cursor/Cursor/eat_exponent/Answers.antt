@@ -1,5 +1,5 @@
-use Rattle.std.proofs.Common.{◌+◌, ◌-◌, Some, sym, refl, ap, ◌∙◌}
-use Rattle.lexer.proofs.Moves.{moved_by, moved_pos, moved_rest, moved_then, next_in_lem, stayed}
+use Rattle.std.proofs.Common.{Some, sym, refl, ap, ◌∙◌}
+use Rattle.lexer.proofs.Moves.{moved_by, moved_rest, moved_then, next_in_lem, stayed}
 use Rattle.lexer.proofs.Numbers.{empty_digits, no_exponent, not_empty, not_empty_digits, some_exponent}
 use Rattle.lexer.proofs.cursor.Cursor.eat_exponent.Goals as goal
 use Rattle.lexer.specs.Cursor.{rest}

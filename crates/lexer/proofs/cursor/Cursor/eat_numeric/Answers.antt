@@ -1,4 +1,4 @@
-use Rattle.std.proofs.Common.{◌+◌, ◌-◌, ap, ◌∙◌}
+use Rattle.std.proofs.Common.{◌-◌, ap, ◌∙◌}
 use Rattle.lexer.proofs.Moves.{moved_pos, moved_then}
 use Rattle.lexer.proofs.cursor.Cursor.eat_numeric.Goals as goal
 use Rattle.lexer.specs.Cursor.{identifier, rest}

@@ -1,4 +1,4 @@
-use Rattle.std.proofs.Common.{◌+◌, sym, refl, ap, ◌∙◌}
+use Rattle.std.proofs.Common.{sym, refl, ap, ◌∙◌}
 use Rattle.lexer.proofs.Moves.{moved_by, moved_from, moved_into, moved_then, next_in_lem}
 use Rattle.lexer.proofs.Numbers.{tail_plain, tail_signed}
 use Rattle.lexer.proofs.cursor.Cursor.eat_numeric_exponent.Goals as goal

@@ -4,7 +4,7 @@ use Rattle.lexer.proofs.Starts.{fits_as}
 use Rattle.lexer.proofs.cursor.Cursor.finish.Goals as goal
 use Rattle.lexer.specs.Class.{all_but}
 use Rattle.lexer.specs.Comment.{comment, comment_closed}
-use Rattle.lexer.specs.Cursor.{Moved, next_len, peek, rest, run}
+use Rattle.lexer.specs.Cursor.{Moved, peek, rest, run}
 use Rattle.lexer.specs.Lex.{kind_of, rest_len}
 use Rattle.lexer.specs.Quoted.{quoted, quoted_closed}
 use Rattle.lexer.specs.declared.cursor.Cursor.{Cursor}
