@@ -1,7 +1,7 @@
 -- What was copied, and the room after it.
 use Rattle.bridge.proofs.Fills.{filled_by_shorter}
 use Rattle.bridge.proofs.fill_front.Goals as goal
-use Rattle.std.proofs.Common.{◌≡◌, ◌-◌, ◌++◌, take, drop, sym, ap, ◌∙◌}
+use Rattle.std.proofs.Common.{◌-◌, ◌++◌, take, drop, ap, ◌∙◌}
 use native.Mathlib.Nat.{sub-zero}
 
 pub returns : goal.returns
