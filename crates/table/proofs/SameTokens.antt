@@ -56,7 +56,17 @@ parts_itself a =
     (and_from _ _ (numbers a.base)
     (and_from _ _ (start_itself a.empty_exponent_start) (numbers a.trailing_junk_start)))))
 
--- the `==` that is derived for parts is `same_parts`
+-- what the `==` that is derived for parts tests, field by field
+abbrev derived : Parts → Parts → Bool
+derived a b =
+    eqb a.number b.number
+    && (beq a.flag b.flag
+    && (beq a.uescape b.uescape
+    && (eqb a.base b.base
+    && (option_eq eqb a.empty_exponent_start b.empty_exponent_start
+    && eqb a.trailing_junk_start b.trailing_junk_start))))
+
+-- it is `same_parts`, and so decides whether parts are equal
 flags_alike : (a b : Bool) → beq a b ≡ same_flag a b
 flags_alike true true = refl
 flags_alike true false = refl
@@ -69,10 +79,10 @@ starts_alike None (Some b) = refl
 starts_alike (Some a) None = refl
 starts_alike (Some a) (Some b) = refl
 
-derived_parts : (a b : Parts) → (eqb a.number b.number && (beq a.flag b.flag && (beq a.uescape b.uescape && (eqb a.base b.base && (option_eq eqb a.empty_exponent_start b.empty_exponent_start && eqb a.trailing_junk_start b.trailing_junk_start))))) ≡ same_parts a b
+derived_parts : (a b : Parts) → derived a b ≡ same_parts a b
 derived_parts a b = simp (flags_alike, starts_alike)
 
-pub parts_decided : (a b : Parts) (r : Bool) → r ≡ (eqb a.number b.number && (beq a.flag b.flag && (beq a.uescape b.uescape && (eqb a.base b.base && (option_eq eqb a.empty_exponent_start b.empty_exponent_start && eqb a.trailing_junk_start b.trailing_junk_start))))) → Decides r (a ≡ b)
+pub parts_decided : (a b : Parts) (r : Bool) → r ≡ derived a b → Decides r (a ≡ b)
 parts_decided a b r e = (
   (λ h. parts_equal a b (sym (derived_parts a b) ∙ sym e ∙ h)),
   (λ q. e ∙ derived_parts a b ∙ ap (same_parts a) (sym q) ∙ parts_itself a),
