@@ -1,9 +1,10 @@
 //! The program: lists the tokens and the statement ends of the script on standard input.
 #![tactic(auto)]
 
-ghost use Rattle.std.specs.Prelude.{◌≤◌, IfOk, vec_len};
+ghost use Rattle.std.specs.Prelude.{◌≡◌, ◌≤◌, IfOk, if◌then◌else◌, vec_len};
+ghost use Rattle.std.specs.Process.{exit_status};
 
-use listing::{LONGEST_INPUT, list_input};
+use listing::{LONGEST_INPUT, Listing, list_input};
 use std::alloc::Global;
 use std::io::{Read, Write};
 use std::process::ExitCode;
@@ -29,13 +30,20 @@ fn read_input(rt: &HostRuntime, heap: Global) -> anyhow::Result<Vec<u8>>
     Ok(input)
 }
 
-/// Ends with status 1 where the input is refused.
+/// The status that the program ends with: 1 where the input is refused, and else 0.
+fn status_of(listing: &Listing) -> ExitCode
+    ensures { exit_status result ≡ (if listing.now.refused then 1 else 0) }
+{
+    if listing.refused {
+        ExitCode::FAILURE
+    } else {
+        ExitCode::SUCCESS
+    }
+}
+
 fn main(rt: HostRuntime) -> anyhow::Result<ExitCode> {
     let input = read_input(&rt, rt.alloc())?;
     let listing = list_input(rt.alloc(), &input)?;
     rt.stdout().write_all(listing.lines.as_bytes())?;
-    if listing.refused {
-        return Ok(ExitCode::FAILURE);
-    }
-    Ok(ExitCode::SUCCESS)
+    Ok(status_of(&listing))
 }
