@@ -1,5 +1,5 @@
 -- What the cursor finds in the bytes that follow its place.
-use Rattle.std.specs.Prelude.{◌≡◌, ℕ, ◌+◌, Bool, true, false, cond, ◌&&◌, ◌||◌, List, [], ◌∷◌, drop, ◌==◌, slice_index}
+use Rattle.std.specs.Prelude.{◌≡◌, ℕ, ◌+◌, Bool, true, false, if◌then◌else◌, ◌&&◌, ◌||◌, List, [], ◌∷◌, drop, ◌==◌, slice_index}
 use Rattle.lexer.specs.Class.{ident_cont, ident_start}
 use Rattle.lexer.specs.declared.cursor.Cursor.{Cursor}
 
@@ -20,7 +20,7 @@ next_len (x ∷ xs) = 1
 -- how many bytes at the front belong to a class: the longest such run
 unfoldable pub run : (ℕ → Bool) → List ℕ → ℕ
 run class [] = 0
-run class (x ∷ xs) = cond (class x) (1 + run class xs) 0
+run class (x ∷ xs) = if class x then 1 + run class xs else 0
 
 -- whether a byte of the class stands at the front
 abbrev pub leads : (ℕ → Bool) → List ℕ → Bool
@@ -29,17 +29,17 @@ leads class (x ∷ xs) = class x
 
 -- an identifier at the front: a starting byte and those that go on with it, or nothing
 abbrev pub identifier : List ℕ → ℕ
-identifier xs = cond (leads ident_start xs) (run ident_cont xs) 0
+identifier xs = if leads ident_start xs then run ident_cont xs else 0
 
 -- the digits at the front, with each underscore that a digit follows
 unfoldable pub digits : (ℕ → Bool) → List ℕ → ℕ
 digits digit [] = 0
-digits digit (x ∷ xs) = cond (digit x || (x == 95 && leads digit xs)) (1 + digits digit xs) 0
+digits digit (x ∷ xs) = if digit x || (x == 95 && leads digit xs) then 1 + digits digit xs else 0
 
 -- whether there is a digit among them
 unfoldable pub digit_met : (ℕ → Bool) → List ℕ → Bool
 digit_met digit [] = false
-digit_met digit (x ∷ xs) = cond (digit x) true (cond (x == 95 && leads digit xs) (digit_met digit xs) false)
+digit_met digit (x ∷ xs) = if digit x then true else (if x == 95 && leads digit xs then digit_met digit xs else false)
 
 module _ {T : Type 0} (bytes : T → List ℕ) where
   -- the bytes from the cursor's place on

@@ -1,5 +1,5 @@
 -- The cut of a text: its tokens in order.
-use Rattle.std.specs.Prelude.{ℕ, zero, suc, ◌+◌, ◌-◌, cond, List, [], ◌∷◌}
+use Rattle.std.specs.Prelude.{ℕ, zero, suc, ◌+◌, ◌-◌, if◌then◌else◌, List, [], ◌∷◌}
 use Rattle.lexer.specs.Lex.{lex, marked}
 use Rattle.lexer.specs.declared.token.Token.{Token}
 use Rattle.lexer.specs.declared.token.TokenKind.TheVariants.{Whitespace}
@@ -16,7 +16,7 @@ mark = record { kind = Whitespace; len = 3 }
 
 -- the tokens of a text; a byte-order mark is looked for once, at the very start
 abbrev pub cut : List ℕ → List Token
-cut xs = cond (marked xs) (mark ∷ cut_after 3 xs) (cut_after 0 xs)
+cut xs = if marked xs then mark ∷ cut_after 3 xs else cut_after 0 xs
 
 -- how many bytes tokens cover
 abbrev pub lengths : List Token → ℕ

@@ -1,6 +1,6 @@
 -- What starts with a dollar sign: dollar-quoted strings and parameters. From `opens_dollar` on, the bytes are those that
 -- follow the first `$`.
-use Rattle.std.specs.Prelude.{ℕ, ◌+◌, Bool, true, false, cond, ◌&&◌, ◌||◌, List, [], ◌∷◌, length, take, drop, ◌==◌}
+use Rattle.std.specs.Prelude.{ℕ, ◌+◌, Bool, true, false, if◌then◌else◌, ◌&&◌, ◌||◌, List, [], ◌∷◌, length, take, drop, ◌==◌}
 use Rattle.lexer.specs.Class.{decimal, ident_start, tag_cont}
 use Rattle.lexer.specs.Cursor.{identifier, leads, peek, run}
 use Rattle.lexer.specs.declared.token.LiteralKind.TheVariants.{DollarQuotedString}
@@ -16,12 +16,12 @@ begins (d ∷ ds) (x ∷ xs) = d == x && begins ds xs
 -- the bytes up to and with the first whole delimiter, or all there are
 unfoldable pub delimited : List ℕ → List ℕ → ℕ
 delimited delimiter [] = 0
-delimited delimiter (x ∷ xs) = cond (begins delimiter (x ∷ xs)) (length delimiter) (1 + delimited delimiter xs)
+delimited delimiter (x ∷ xs) = if begins delimiter (x ∷ xs) then length delimiter else 1 + delimited delimiter xs
 
 -- whether there is one
 unfoldable pub delimited_closed : List ℕ → List ℕ → Bool
 delimited_closed delimiter [] = false
-delimited_closed delimiter (x ∷ xs) = cond (begins delimiter (x ∷ xs)) true (delimited_closed delimiter xs)
+delimited_closed delimiter (x ∷ xs) = if begins delimiter (x ∷ xs) then true else delimited_closed delimiter xs
 
 -- whether a tag and a `$` follow: the tag is empty or an identifier without `$`
 abbrev pub opens_dollar : List ℕ → Bool
@@ -47,7 +47,7 @@ abbrev pub parameter : List ℕ → ℕ
 parameter xs = run decimal xs + identifier (drop (run decimal xs) xs)
 
 abbrev pub dollar_len : List ℕ → ℕ
-dollar_len xs = cond (opens_dollar xs) (dollar_quoted xs) (parameter xs)
+dollar_len xs = if opens_dollar xs then dollar_quoted xs else parameter xs
 
 abbrev pub dollar_kind : List ℕ → TokenKind
-dollar_kind xs = cond (opens_dollar xs) (Literal (DollarQuotedString (dollar_closed xs))) (PositionalParam (1 + run decimal xs))
+dollar_kind xs = if opens_dollar xs then Literal (DollarQuotedString (dollar_closed xs)) else PositionalParam (1 + run decimal xs)

@@ -1,5 +1,5 @@
 -- Whole tokens: what starts with a byte, and the list of bytes that follow it.
-use Rattle.std.specs.Prelude.{ℕ, ◌+◌, Bool, true, false, cond, ◌&&◌, List, [], ◌∷◌, length, drop, Some, None, Option, ◌==◌, nat_lt}
+use Rattle.std.specs.Prelude.{ℕ, ◌+◌, Bool, true, false, if◌then◌else◌, ◌&&◌, List, [], ◌∷◌, length, drop, Some, None, Option, ◌==◌, nat_lt}
 use Rattle.lexer.specs.Class.{all_but, ident_cont, whitespace}
 use Rattle.lexer.specs.Comment.{comment, comment_closed}
 use Rattle.lexer.specs.Cursor.{peek, run}
@@ -72,5 +72,5 @@ marked xs = peek 0 xs == 239 && (peek 1 xs == 187 && peek 2 xs == 191)
 -- the token at a place of a text: a byte-order mark at the very start is whitespace of its own
 abbrev pub token_at : List ℕ → ℕ → Option Token
 token_at xs place =
-    cond (place == 0 && marked xs) (Some record { kind = Whitespace; len = 3 })
-    (cond (nat_lt place (length xs)) (Some (token_from (drop place xs))) None)
+    if place == 0 && marked xs then Some record { kind = Whitespace; len = 3 }
+    else (if nat_lt place (length xs) then Some (token_from (drop place xs)) else None)

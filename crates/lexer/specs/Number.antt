@@ -1,6 +1,6 @@
 -- Numbers: what follows the first character of one, which is a digit or, before a digit, a point.
 -- `at` is how many bytes of the token stand before the list.
-use Rattle.std.specs.Prelude.{ℕ, ◌+◌, Bool, false, cond, not, ◌&&◌, ◌||◌, List, drop, Some, None, Option, ◌==◌}
+use Rattle.std.specs.Prelude.{ℕ, ◌+◌, Bool, false, if◌then◌else◌, not, ◌&&◌, ◌||◌, List, drop, Some, None, Option, ◌==◌}
 use Rattle.lexer.specs.Class.{decimal, hexadecimal}
 use Rattle.lexer.specs.Cursor.{digit_met, digits, identifier, peek}
 use Rattle.lexer.specs.declared.token.Base.{Base}
@@ -21,19 +21,19 @@ sign b = b == 43 || b == 45
 
 -- after the mark: whether a digit follows directly, or after one sign
 abbrev pub exponent_digits : List ℕ → Bool
-exponent_digits xs = cond (sign (peek 0 xs)) (decimal (peek 1 xs)) (decimal (peek 0 xs))
+exponent_digits xs = if sign (peek 0 xs) then decimal (peek 1 xs) else decimal (peek 0 xs)
 
 -- after the mark: the sign and the digits; a sign is taken only before a digit
 abbrev pub exponent_tail : List ℕ → ℕ
-exponent_tail xs = cond (exponent_digits xs) (cond (sign (peek 0 xs)) (1 + digits decimal (drop 1 xs)) (digits decimal xs)) 0
+exponent_tail xs = if exponent_digits xs then (if sign (peek 0 xs) then 1 + digits decimal (drop 1 xs) else digits decimal xs) else 0
 
 -- the exponent, with its mark, if there is one
 unfoldable pub exponent : List ℕ → ℕ
-exponent xs = cond (exponent_mark (peek 0 xs)) (1 + exponent_tail (drop 1 xs)) 0
+exponent xs = if exponent_mark (peek 0 xs) then 1 + exponent_tail (drop 1 xs) else 0
 
 -- where an exponent without digits begins
 unfoldable pub empty_exponent : ℕ → List ℕ → Option ℕ
-empty_exponent at xs = cond (exponent_mark (peek 0 xs)) (cond (exponent_digits (drop 1 xs)) None (Some at)) None
+empty_exponent at xs = if exponent_mark (peek 0 xs) then (if exponent_digits (drop 1 xs) then None else Some at) else None
 
 -- after the point, or before an exponent: what is left of a number that has either
 unfoldable pub numeric : ℕ → List ℕ → LiteralKind
@@ -44,7 +44,7 @@ numeric_len xs = exponent xs + identifier (drop (exponent xs) xs)
 
 -- after the point: digits, if one follows directly
 abbrev pub fraction : List ℕ → ℕ
-fraction xs = cond (decimal (peek 0 xs)) (digits decimal xs) 0
+fraction xs = if decimal (peek 0 xs) then digits decimal xs else 0
 
 unfoldable pub fractional : ℕ → List ℕ → LiteralKind
 fractional at xs = numeric (at + fraction xs) (drop (fraction xs) xs)
@@ -58,10 +58,10 @@ has_point xs = peek 0 xs == 46 && not (peek 1 xs == 46)
 
 -- after the digits before the point
 abbrev pub after_digits : ℕ → List ℕ → LiteralKind
-after_digits at xs = cond (has_point xs) (fractional (at + 1) (drop 1 xs)) (cond (exponent_mark (peek 0 xs)) (numeric at xs) (Int Decimal false at))
+after_digits at xs = if has_point xs then fractional (at + 1) (drop 1 xs) else (if exponent_mark (peek 0 xs) then numeric at xs else Int Decimal false at)
 
 abbrev pub after_digits_len : List ℕ → ℕ
-after_digits_len xs = cond (has_point xs) (1 + fractional_len (drop 1 xs)) (cond (exponent_mark (peek 0 xs)) (numeric_len xs) (identifier xs))
+after_digits_len xs = if has_point xs then 1 + fractional_len (drop 1 xs) else (if exponent_mark (peek 0 xs) then numeric_len xs else identifier xs)
 
 -- after the first digit of a decimal number
 unfoldable pub decimal_number : ℕ → List ℕ → LiteralKind
@@ -79,7 +79,7 @@ based_len digit xs = digits digit xs + identifier (drop (digits digit xs) xs)
 
 -- the base that a prefix names: after a `0`, by the letter that follows
 abbrev pub base_of : ℕ → ℕ → Base
-base_of first next = cond (first == 48) (cond (either_case 98 next) Binary (cond (either_case 111 next) Octal (cond (either_case 120 next) Hexadecimal Decimal))) Decimal
+base_of first next = if first == 48 then (if either_case 98 next then Binary else (if either_case 111 next then Octal else (if either_case 120 next then Hexadecimal else Decimal))) else Decimal
 
 -- after the first digit of a number in a base; binary and octal numbers take decimal digits
 abbrev pub in_base : Base → ℕ → List ℕ → LiteralKind

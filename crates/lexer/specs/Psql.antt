@@ -1,5 +1,5 @@
 -- psql commands: the word after the backslash, what it does, and how far the command reaches.
-use Rattle.std.specs.Prelude.{ℕ, ◌+◌, Bool, true, false, cond, ◌&&◌, ◌||◌, List, [], ◌∷◌, take, drop, codes, ◌==◌}
+use Rattle.std.specs.Prelude.{ℕ, ◌+◌, Bool, true, false, if◌then◌else◌, ◌&&◌, ◌||◌, List, [], ◌∷◌, take, drop, codes, ◌==◌}
 use Rattle.lexer.specs.Class.{all_but, command_letter, line_blank}
 use Rattle.lexer.specs.Cursor.{peek, run}
 use Rattle.lexer.specs.PsqlArg.{arguments, options}
@@ -81,15 +81,15 @@ followed f g xs = f xs + g (drop (f xs) xs)
 
 -- the options of `\g`, if a parenthesis opens them
 abbrev pub opened_options : Command → List ℕ → ℕ
-opened_options command xs = cond (command.takes_options && peek 0 xs == 40) (options Outside 0 xs) 0
+opened_options command xs = if command.takes_options && peek 0 xs == 40 then options Outside 0 xs else 0
 
 -- before a pipe is looked for: the blanks, and the options
 abbrev pub before_pipe : Command → List ℕ → ℕ
-before_pipe command xs = cond command.takes_pipe (followed (run line_blank) (opened_options command) xs) 0
+before_pipe command xs = if command.takes_pipe then followed (run line_blank) (opened_options command) xs else 0
 
 -- the rest of the line for a word that reads it, or from a pipe on; else arguments
 abbrev pub what_follows : Command → List ℕ → ℕ
-what_follows command xs = cond (command.reads_line || (command.takes_pipe && peek 0 xs == 124)) (run (all_but 10 13) xs) (arguments Outside xs)
+what_follows command xs = if command.reads_line || (command.takes_pipe && peek 0 xs == 124) then run (all_but 10 13) xs else arguments Outside xs
 
 -- the word at the front: the longest run of command letters
 abbrev pub command_word : List ℕ → List ℕ
@@ -104,10 +104,10 @@ command_len xs = followed (run command_letter) (followed (before_pipe (command x
 -- after the backslash: `\`, `;` and `:` stand alone, and else a command follows
 abbrev pub psql_kind : List ℕ → TokenKind
 psql_kind xs =
-    cond (peek 0 xs == 92) (PsqlCommand false)
-    (cond (peek 0 xs == 59) Semi
-    (cond (peek 0 xs == 58) Colon
-    (PsqlCommand (command xs).ends_query)))
+    if peek 0 xs == 92 then PsqlCommand false
+    else (if peek 0 xs == 59 then Semi
+    else (if peek 0 xs == 58 then Colon
+    else PsqlCommand (command xs).ends_query))
 
 abbrev pub psql_len : List ℕ → ℕ
-psql_len xs = cond (peek 0 xs == 92 || (peek 0 xs == 59 || peek 0 xs == 58)) 1 (command_len xs)
+psql_len xs = if peek 0 xs == 92 || (peek 0 xs == 59 || peek 0 xs == 58) then 1 else command_len xs

@@ -1,5 +1,5 @@
 -- Where strings, quoted names and dollar-quoted strings end, in the words of SQL's lexical rules.
-use Rattle.std.specs.Prelude.{◌≡◌, ℕ, ◌+◌, ◌≤◌, Bool, true, false, cond, List, [], ◌∷◌, ◌++◌, map, length, take, drop, Some, codes, ◌≢◌, nat_eq}
+use Rattle.std.specs.Prelude.{◌≡◌, ℕ, ◌+◌, ◌≤◌, Bool, true, false, if◌then◌else◌, List, [], ◌∷◌, ◌++◌, map, length, take, drop, Some, codes, ◌≢◌, nat_eq}
 use Rattle.lexer.specs.Class.{between, ident_start, tag_cont}
 use Rattle.lexer.specs.Cursor.{leads}
 use Rattle.lexer.specs.Lex.{token_at}
@@ -36,7 +36,7 @@ pub record Closes (quote : ℕ) (escapes : Bool) (xs body rest : List ℕ) : Typ
 
 -- a letter in lower case, and any other byte as it is
 abbrev pub lower : ℕ → ℕ
-lower b = cond (between 65 90 b) (b + 32) b
+lower b = if between 65 90 b then b + 32 else b
 
 -- a quoted token begins with its opener, in letters of either case
 abbrev pub QuotedOpens : Type 0

@@ -1,5 +1,5 @@
 -- Quoted strings and names: how far one reaches after its opening quote, and whether it is closed.
-use Rattle.std.specs.Prelude.{ℕ, ◌+◌, Bool, true, false, cond, ◌&&◌, List, [], ◌∷◌, ◌==◌}
+use Rattle.std.specs.Prelude.{ℕ, ◌+◌, Bool, true, false, if◌then◌else◌, ◌&&◌, List, [], ◌∷◌, ◌==◌}
 use Rattle.lexer.specs.Class.{backslash}
 use Rattle.lexer.specs.declared.quoted.Prefix.TheVariants.{Esc, Bit, Byte, National, UnicodeEsc}
 use Rattle.lexer.specs.declared.quoted.Prefix.{Prefix}
@@ -11,13 +11,13 @@ use Rattle.lexer.specs.declared.token.LiteralKind.{LiteralKind}
 unfoldable pub quoted : ℕ → Bool → List ℕ → ℕ
 quoted quote escapes [] = 0
 quoted quote escapes (x ∷ []) = 1
-quoted quote escapes (x ∷ y ∷ xs) = cond (x == quote) (cond (y == quote) (2 + quoted quote escapes xs) 1) (cond (escapes && backslash x) (2 + quoted quote escapes xs) (1 + quoted quote escapes (y ∷ xs)))
+quoted quote escapes (x ∷ y ∷ xs) = if x == quote then (if y == quote then 2 + quoted quote escapes xs else 1) else (if escapes && backslash x then 2 + quoted quote escapes xs else 1 + quoted quote escapes (y ∷ xs))
 
 -- whether there is a closing quote
 unfoldable pub quoted_closed : ℕ → Bool → List ℕ → Bool
 quoted_closed quote escapes [] = false
 quoted_closed quote escapes (x ∷ []) = x == quote
-quoted_closed quote escapes (x ∷ y ∷ xs) = cond (x == quote) (cond (y == quote) (quoted_closed quote escapes xs) true) (cond (escapes && backslash x) (quoted_closed quote escapes xs) (quoted_closed quote escapes (y ∷ xs)))
+quoted_closed quote escapes (x ∷ y ∷ xs) = if x == quote then (if y == quote then quoted_closed quote escapes xs else true) else (if escapes && backslash x then quoted_closed quote escapes xs else quoted_closed quote escapes (y ∷ xs))
 
 -- only an escape string has escapes
 abbrev pub has_escapes : Prefix → Bool

@@ -1,5 +1,5 @@
 -- How a token starts: the first character decides, at times with the next ones.
-use Rattle.std.specs.Prelude.{ℕ, cond, ◌&&◌, ◌==◌}
+use Rattle.std.specs.Prelude.{ℕ, if◌then◌else◌, ◌&&◌, ◌==◌}
 use Rattle.lexer.specs.Class.{decimal, ident_start, whitespace}
 use Rattle.lexer.specs.Number.{either_case}
 use Rattle.lexer.specs.declared.quoted.Prefix.TheVariants.{Esc, Bit, Byte, National}
@@ -11,63 +11,63 @@ use Rattle.lexer.specs.declared.token.TokenKind.{TokenKind}
 -- the kinds of one character
 abbrev pub symbol : ℕ → TokenKind
 symbol b =
-    cond (b == 59) Semi
-    (cond (b == 44) Comma
-    (cond (b == 40) OpenParen
-    (cond (b == 41) CloseParen
-    (cond (b == 91) OpenBracket
-    (cond (b == 93) CloseBracket
-    (cond (b == 123) OpenCurly
-    (cond (b == 125) CloseCurly
-    (cond (b == 64) At
-    (cond (b == 35) Pound
-    (cond (b == 126) Tilde
-    (cond (b == 63) Question
-    (cond (b == 58) Colon
-    (cond (b == 46) Dot
-    (cond (b == 47) Slash
-    (cond (b == 45) Minus
-    (cond (b == 96) Backtick
-    (cond (b == 61) Eq
-    (cond (b == 33) Bang
-    (cond (b == 60) Lt
-    (cond (b == 62) Gt
-    (cond (b == 38) And
-    (cond (b == 124) Or
-    (cond (b == 43) Plus
-    (cond (b == 42) Star
-    (cond (b == 94) Caret
-    (cond (b == 37) Percent Unknown))))))))))))))))))))))))))
+    if b == 59 then Semi
+    else (if b == 44 then Comma
+    else (if b == 40 then OpenParen
+    else (if b == 41 then CloseParen
+    else (if b == 91 then OpenBracket
+    else (if b == 93 then CloseBracket
+    else (if b == 123 then OpenCurly
+    else (if b == 125 then CloseCurly
+    else (if b == 64 then At
+    else (if b == 35 then Pound
+    else (if b == 126 then Tilde
+    else (if b == 63 then Question
+    else (if b == 58 then Colon
+    else (if b == 46 then Dot
+    else (if b == 47 then Slash
+    else (if b == 45 then Minus
+    else (if b == 96 then Backtick
+    else (if b == 61 then Eq
+    else (if b == 33 then Bang
+    else (if b == 60 then Lt
+    else (if b == 62 then Gt
+    else (if b == 38 then And
+    else (if b == 124 then Or
+    else (if b == 43 then Plus
+    else (if b == 42 then Star
+    else (if b == 94 then Caret
+    else (if b == 37 then Percent else Unknown))))))))))))))))))))))))))
 
 -- what starts with a byte, whatever follows it
 unfoldable pub plain_start : ℕ → Start
 plain_start b =
-    cond (whitespace b) Blanks
-    (cond (ident_start b) Word
-    (cond (decimal b) Digit
-    (cond (b == 36) Dollar
-    (cond (b == 92) Command
-    (cond (b == 39) Quote
-    (cond (b == 34) DoubleQuote (Symbol (symbol b))))))))
+    if whitespace b then Blanks
+    else (if ident_start b then Word
+    else (if decimal b then Digit
+    else (if b == 36 then Dollar
+    else (if b == 92 then Command
+    else (if b == 39 then Quote
+    else (if b == 34 then DoubleQuote else Symbol (symbol b)))))))
 
 -- what starts with a byte directly before a `'`
 abbrev pub quoted_start : ℕ → Start
 quoted_start b =
-    cond (either_case 101 b) (Prefixed Esc)
-    (cond (either_case 98 b) (Prefixed Bit)
-    (cond (either_case 120 b) (Prefixed Byte)
-    (cond (either_case 110 b) (Prefixed National) (plain_start b))))
+    if either_case 101 b then Prefixed Esc
+    else (if either_case 98 b then Prefixed Bit
+    else (if either_case 120 b then Prefixed Byte
+    else (if either_case 110 b then Prefixed National else plain_start b)))
 
 -- what starts with `U&`, by what follows
 abbrev pub unicode_start : ℕ → Start
-unicode_start b = cond (b == 39) UnicodeStr (cond (b == 34) UnicodeIdent Word)
+unicode_start b = if b == 39 then UnicodeStr else (if b == 34 then UnicodeIdent else Word)
 
 -- what starts with the byte `first`, where `next` and `after` follow it (0 stands past the end)
 abbrev pub start_of : ℕ → ℕ → ℕ → Start
 start_of first next after =
-    cond (first == 47 && next == 42) Block
-    (cond (first == 45 && next == 45) Line
-    (cond (first == 46 && next == 46) TwoDots
-    (cond (first == 46 && decimal next) Point
-    (cond (either_case 117 first && next == 38) (unicode_start after)
-    (cond (next == 39) (quoted_start first) (plain_start first))))))
+    if first == 47 && next == 42 then Block
+    else (if first == 45 && next == 45 then Line
+    else (if first == 46 && next == 46 then TwoDots
+    else (if first == 46 && decimal next then Point
+    else (if either_case 117 first && next == 38 then unicode_start after
+    else (if next == 39 then quoted_start first else plain_start first)))))

@@ -1,5 +1,5 @@
 -- What PostgreSQL's chapter "Lexical Structure" says of tokens: comments, identifiers, whitespace, parameters and numbers.
-use Rattle.std.specs.Prelude.{◌≡◌, ℕ, ◌+◌, ◌<◌, ◌≤◌, Bool, true, false, cond, ◌&&◌, ◌||◌, ◌⊎◌, List, [], ◌∷◌, ◌++◌, length, take, drop, Some, None, Option, ◌==◌}
+use Rattle.std.specs.Prelude.{◌≡◌, ℕ, ◌+◌, ◌<◌, ◌≤◌, Bool, true, false, if◌then◌else◌, ◌&&◌, ◌||◌, ◌⊎◌, List, [], ◌∷◌, ◌++◌, length, take, drop, Some, None, Option, ◌==◌}
 use Rattle.lexer.specs.Class.{all_but, decimal, hexadecimal, ident_cont, ident_start, whitespace}
 use Rattle.lexer.specs.Comment.{closes, opens}
 use Rattle.lexer.specs.Cursor.{leads, peek}
@@ -19,12 +19,12 @@ Always P = (bs : List ℕ) (place : ℕ) (t : Token) → token_at bs place ≡ S
 unfoldable pub openers : List ℕ → ℕ
 openers [] = 0
 openers (a ∷ []) = 0
-openers (a ∷ b ∷ xs) = cond (opens a b) (1 + openers xs) (cond (closes a b) (openers xs) (openers (b ∷ xs)))
+openers (a ∷ b ∷ xs) = if opens a b then 1 + openers xs else (if closes a b then openers xs else openers (b ∷ xs))
 
 unfoldable pub closers : List ℕ → ℕ
 closers [] = 0
 closers (a ∷ []) = 0
-closers (a ∷ b ∷ xs) = cond (opens a b) (closers xs) (cond (closes a b) (1 + closers xs) (closers (b ∷ xs)))
+closers (a ∷ b ∷ xs) = if opens a b then closers xs else (if closes a b then 1 + closers xs else closers (b ∷ xs))
 
 -- a closed block comment begins with `/*` and has as many `*/`; each shorter front with that first mark has fewer
 pub record Closed (token : List ℕ) : Type 0 where

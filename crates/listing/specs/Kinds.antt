@@ -1,5 +1,5 @@
 -- The kinds of tokens as words: their names and their fields.
-use Rattle.std.specs.Prelude.{ℕ, cond, List, [], ◌++◌, Some, None, codes, decimal, Option}
+use Rattle.std.specs.Prelude.{ℕ, if◌then◌else◌, List, [], ◌++◌, Some, None, codes, decimal, Option}
 use Rattle.lexer.specs.Token.{base_number}
 use Rattle.lexer.specs.declared.token.LiteralKind.{LiteralKind}
 use Rattle.lexer.specs.declared.token.LiteralKind.TheVariants.{Int, Numeric, Str, NationalStr, ByteStr, BitStr, DollarQuotedString, UnicodeEscStr, EscStr}
@@ -65,7 +65,7 @@ kind_name (QuotedIdent terminated uescape) = codes "QuotedIdent"
 abbrev pub field_bytes : Field → List ℕ
 field_bytes Nothing = []
 field_bytes Absent = codes " -"
-field_bytes (Flag set) = cond set (codes " 1") (codes " 0")
+field_bytes (Flag set) = if set then codes " 1" else codes " 0"
 field_bytes (Number n) = codes " " ++ decimal n
 
 abbrev pub if_there : Option ℕ → Field

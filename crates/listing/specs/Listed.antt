@@ -1,5 +1,5 @@
 -- What the program writes for an input.
-use Rattle.std.specs.Prelude.{◌≡◌, ℕ, ◌+◌, true, false, cond, List, [], ◌∷◌, ◌++◌, length, take, drop, Ok, Err, string_bytes, Result, nat_lt}
+use Rattle.std.specs.Prelude.{◌≡◌, ℕ, ◌+◌, true, false, if◌then◌else◌, List, [], ◌∷◌, ◌++◌, length, take, drop, Ok, Err, string_bytes, Result, nat_lt}
 use Rattle.text.specs.Fit.{checked}
 use Rattle.text.specs.declared.fault.TextFault.{TextFault}
 use Rattle.lexer.specs.Cut.{cut, lengths}
@@ -55,4 +55,4 @@ in_text (Err fault) = Err (InText fault)
 
 -- the length of an input is looked at first
 abbrev pub admitted : List ℕ → Result (Unit {0}) ProgramFault
-admitted bs = cond (nat_lt longest_input (length bs)) (Err InputTooLong) (in_text (checked bs))
+admitted bs = if nat_lt longest_input (length bs) then Err InputTooLong else in_text (checked bs)

@@ -1,5 +1,5 @@
 -- A walk over the tokens of a text, and the lines that it writes.
-use Rattle.std.specs.Prelude.{ℕ, ◌+◌, ◌-◌, ◌≤◌, cond, List, [], ◌∷◌, ◌++◌, Some, None, Option, ◌==◌}
+use Rattle.std.specs.Prelude.{ℕ, ◌+◌, ◌-◌, ◌≤◌, if◌then◌else◌, List, [], ◌∷◌, ◌++◌, Some, None, Option, ◌==◌}
 use Rattle.lexer.specs.declared.token.Token.{Token}
 use Rattle.statement.specs.declared.Cause.{Cause}
 use Rattle.statement.specs.Ends.{first_state, next_state, end_after, solid}
@@ -22,7 +22,7 @@ pub record Within (w : Walk) : Type 0 where
 
 -- the solid tokens of the statement so far, with one token more
 abbrev pub solid_with : Walk → Token → ℕ
-solid_with w t = w.solid + cond (solid t) 1 0
+solid_with w t = w.solid + (if solid t then 1 else 0)
 
 -- the line of a statement that ends after a token
 abbrev pub end_line : Walk → Token → Cause → EndLine

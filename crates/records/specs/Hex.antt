@@ -1,9 +1,9 @@
 -- Bytes in lower-case hexadecimal digits, two to a byte.
-use Rattle.std.specs.Prelude.{ℕ, ◌+◌, ◌-◌, ◌*◌, cond, ◌&&◌, List, [], ◌∷◌, Some, None, Option, nat_le}
+use Rattle.std.specs.Prelude.{ℕ, ◌+◌, ◌-◌, ◌*◌, if◌then◌else◌, ◌&&◌, List, [], ◌∷◌, Some, None, Option, nat_le}
 
 -- what a digit stands for
 abbrev pub digit_value : ℕ → Option ℕ
-digit_value b = cond (nat_le 48 b && nat_le b 57) (Some (b - 48)) (cond (nat_le 97 b && nat_le b 102) (Some (b - 87)) None)
+digit_value b = if nat_le 48 b && nat_le b 57 then Some (b - 48) else (if nat_le 97 b && nat_le b 102 then Some (b - 87) else None)
 
 -- what two digits stand for, the higher one first
 abbrev pub pair_value : Option ℕ → Option ℕ → Option ℕ

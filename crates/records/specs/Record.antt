@@ -1,20 +1,20 @@
 -- A list of records. A record is a line with the text's digits, the lines of its listing, and an empty line.
-use Rattle.std.specs.Prelude.{ℕ, ◌+◌, Bool, true, cond, ◌&&◌, List, [], ◌∷◌, length, take, drop, Some, None, Option, ◌==◌, nat_lt}
+use Rattle.std.specs.Prelude.{ℕ, ◌+◌, Bool, true, if◌then◌else◌, ◌&&◌, List, [], ◌∷◌, length, take, drop, Some, None, Option, ◌==◌, nat_lt}
 use Rattle.records.specs.declared.record.Record.{Record}
 
 -- how many bytes stand before the first line end
 unfoldable pub line_length : List ℕ → ℕ
 line_length [] = 0
-line_length (b ∷ bs) = cond (b == 10) 0 (1 + line_length bs)
+line_length (b ∷ bs) = if b == 10 then 0 else 1 + line_length bs
 
 -- how many bytes stand before the first empty line; `starts` says whether a line starts here
 unfoldable pub lines_length : Bool → List ℕ → ℕ
 lines_length starts [] = 0
-lines_length starts (b ∷ bs) = cond (starts && b == 10) 0 (1 + lines_length (b == 10) bs)
+lines_length starts (b ∷ bs) = if starts && b == 10 then 0 else 1 + lines_length (b == 10) bs
 
 -- what stands before a place and what after it; none if the place is past the end
 abbrev pub split_at : ℕ → List ℕ → Option (List ℕ × List ℕ)
-split_at n bs = cond (nat_lt n (length bs)) (Some (take n bs, drop (n + 1) bs)) None
+split_at n bs = if nat_lt n (length bs) then Some (take n bs, drop (n + 1) bs) else None
 
 -- what a record holds: the text's digits, its listing, and the list after them
 abbrev pub parts : Record → List ℕ × List ℕ × List ℕ

@@ -1,6 +1,6 @@
 -- Where a statement ends: the rule, one token at a time. Its state is one number, the depth: how many
 -- parentheses are open.
-use Rattle.std.specs.Prelude.{ℕ, ◌+◌, ◌-◌, min, Bool, true, false, cond, not, ◌&&◌, Some, None, Option, ◌==◌}
+use Rattle.std.specs.Prelude.{ℕ, ◌+◌, ◌-◌, min, Bool, true, false, if◌then◌else◌, not, ◌&&◌, Some, None, Option, ◌==◌}
 use Rattle.std.specs.Option.{unwrap_or}
 use Rattle.lexer.specs.declared.token.Token.{Token}
 use Rattle.statement.specs.declared.Cause.{Cause}
@@ -43,7 +43,7 @@ role_state depth (plain terminated) = depth
 role_state depth opening = min (depth + 1) 4294967295
 role_state depth closing = depth - 1
 role_state depth semicolon = depth
-role_state depth (command ends_query) = cond ends_query 0 depth
+role_state depth (command ends_query) = if ends_query then 0 else depth
 
 abbrev pub next_state : ℕ → Token → ℕ
 next_state depth t = role_state depth (role t.kind)
@@ -55,15 +55,15 @@ role_end depth len (blank terminated) = None
 role_end depth len (plain terminated) = None
 role_end depth len opening = None
 role_end depth len closing = None
-role_end depth len semicolon = cond (len == 1 && depth == 0) (Some Semicolon) None
-role_end depth len (command ends_query) = cond ends_query (Some Command) None
+role_end depth len semicolon = if len == 1 && depth == 0 then Some Semicolon else None
+role_end depth len (command ends_query) = if ends_query then Some Command else None
 
 abbrev pub own_end : ℕ → Token → Option Cause
 own_end depth t = role_end depth t.len (role t.kind)
 
 -- the cause of the end after the last token, where the token itself puts none there
 abbrev pub last_cause : Token → Cause
-last_cause t = cond (unterminated t) Unterminated Last
+last_cause t = if unterminated t then Unterminated else Last
 
 -- the end that stands after a token, which is a text's last or not
 abbrev pub end_after : ℕ → Token → Bool → Option Cause

@@ -1,5 +1,5 @@
 -- The statements of a list of tokens.
-use Rattle.std.specs.Prelude.{ℕ, ◌+◌, cond, List, [], ◌∷◌, length, Some, None, Option, ◌==◌}
+use Rattle.std.specs.Prelude.{ℕ, ◌+◌, if◌then◌else◌, List, [], ◌∷◌, length, Some, None, Option, ◌==◌}
 use Rattle.lexer.specs.declared.token.Token.{Token}
 use Rattle.statement.specs.declared.Cause.{Cause}
 use Rattle.statement.specs.declared.Statement.{Statement}
@@ -13,7 +13,7 @@ state_after state (t ∷ ts) = state_after (next_state state t) ts
 -- how many tokens of a list are solid
 abbrev pub solids : List Token → ℕ
 solids [] = 0
-solids (t ∷ ts) = cond (solid t) 1 0 + solids ts
+solids (t ∷ ts) = (if solid t then 1 else 0) + solids ts
 
 -- one thing where a statement goes on, another where it ends
 abbrev pub by_end : {A : Type 0} → Option Cause → A → (Cause → A) → A
@@ -26,8 +26,8 @@ abbrev pub statements_on : ℕ → ℕ → ℕ → List Token → List Statement
 statements_on state passed met [] = []
 statements_on state passed met (t ∷ ts) =
     by_end (end_after state t (length ts == 0))
-    (statements_on (next_state state t) (passed + 1) (met + cond (solid t) 1 0) ts)
-    (λ cause. record { tokens = passed + 1; solid = met + cond (solid t) 1 0; cause = cause } ∷ statements_on (next_state state t) 0 0 ts)
+    (statements_on (next_state state t) (passed + 1) (met + (if solid t then 1 else 0)) ts)
+    (λ cause. record { tokens = passed + 1; solid = met + (if solid t then 1 else 0); cause = cause } ∷ statements_on (next_state state t) 0 0 ts)
 
 abbrev pub statements : ℕ → List Token → List Statement
 statements state ts = statements_on state 0 0 ts

@@ -1,5 +1,5 @@
 -- What the table call answers, and what the table holds after it.
-use Rattle.std.specs.Prelude.{ℕ, cond, List, ◌++◌, length, drop, Ok, Err, Result, nat_lt}
+use Rattle.std.specs.Prelude.{ℕ, if◌then◌else◌, List, ◌++◌, length, drop, Ok, Err, Result, nat_lt}
 use Rattle.lexer.specs.Cut.{cut}
 use Rattle.lexer.specs.declared.token.Token.{Token}
 use Rattle.table.specs.declared.fault.TableFault.TheVariants.{InText, TooFewEntries}
@@ -14,7 +14,7 @@ if_fit in_text (Err fault) answer = Err (in_text fault)
 
 -- so many tokens, if as many entries have room for them
 abbrev pub room_for : ℕ → ℕ → Result ℕ TableFault
-room_for tokens entries = cond (nat_lt entries tokens) (Err (TooFewEntries tokens)) (Ok tokens)
+room_for tokens entries = if nat_lt entries tokens then Err (TooFewEntries tokens) else Ok tokens
 
 -- the token count, or why the table is not filled: the text is looked at first
 abbrev pub fill_answer : List ℕ → List Token → Result ℕ TableFault

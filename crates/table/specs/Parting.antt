@@ -1,5 +1,5 @@
 -- Where two lists of tokens part.
-use Rattle.std.specs.Prelude.{◌≡◌, ℕ, ◌+◌, cond, List, [], ◌∷◌, take, Some, None, Option, ◌≢◌}
+use Rattle.std.specs.Prelude.{◌≡◌, ℕ, ◌+◌, if◌then◌else◌, List, [], ◌∷◌, take, Some, None, Option, ◌≢◌}
 use Rattle.lexer.specs.declared.token.Token.{Token}
 use Rattle.std.specs.List.{slice_get}
 use Rattle.table.specs.Same.{same}
@@ -10,7 +10,7 @@ unfoldable pub parting_from : ℕ → List Token → List Token → Option ℕ
 parting_from index [] [] = None
 parting_from index [] (u ∷ us) = Some index
 parting_from index (t ∷ ts) [] = Some index
-parting_from index (t ∷ ts) (u ∷ us) = cond (same t u) (parting_from (index + 1) ts us) (Some index)
+parting_from index (t ∷ ts) (u ∷ us) = if same t u then parting_from (index + 1) ts us else Some index
 
 abbrev pub parting : List Token → List Token → Option ℕ
 parting ts us = parting_from 0 ts us

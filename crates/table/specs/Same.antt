@@ -1,5 +1,5 @@
 -- Whether two tokens are equal: their kinds are taken apart into plain values, and these compared.
-use Rattle.std.specs.Prelude.{ℕ, Bool, true, false, cond, not, ◌&&◌, Some, None, Option, ◌==◌}
+use Rattle.std.specs.Prelude.{ℕ, Bool, true, false, if◌then◌else◌, not, ◌&&◌, Some, None, Option, ◌==◌}
 use Rattle.lexer.specs.Token.{base_number}
 use Rattle.lexer.specs.declared.token.LiteralKind.TheVariants.{Int, Numeric, Str, NationalStr, ByteStr, BitStr, DollarQuotedString, UnicodeEscStr, EscStr}
 use Rattle.lexer.specs.declared.token.LiteralKind.{LiteralKind}
@@ -69,7 +69,7 @@ kind_parts (PositionalParam junk) = parts 36 false false 0 None junk
 kind_parts (QuotedIdent terminated uescape) = parts 37 terminated uescape 0 None 0
 
 abbrev pub same_flag : Bool → Bool → Bool
-same_flag a b = cond a b (not b)
+same_flag a b = if a then b else not b
 
 abbrev pub same_start : Option ℕ → Option ℕ → Bool
 same_start None None = true

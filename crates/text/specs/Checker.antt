@@ -1,5 +1,5 @@
 -- How far a checker of UTF-8 has come, told by the table.
-use Rattle.std.specs.Prelude.{◌≡◌, ℕ, suc, Bool, true, false, cond, List, [], ◌∷◌, length, drop, nat_lt}
+use Rattle.std.specs.Prelude.{◌≡◌, ℕ, suc, Bool, true, false, if◌then◌else◌, List, [], ◌∷◌, length, drop, nat_lt}
 use Rattle.text.specs.Utf8.{Row, tail, table, holds, sound, WellFormed}
 use Rattle.text.specs.declared.utf8.State.{State}
 use Rattle.text.specs.declared.utf8.State.TheVariants.{Between, OneOfTwo, AfterE0, OneOfThree, AfterED, AfterF0, OneOfFour, AfterF4, TwoOfThree, TwoOfFour, ThreeOfFour, Ill}
@@ -18,7 +18,7 @@ between = record { rows = table; taken = 0 }
 abbrev pub left_after : ℕ → List Row → List Row
 left_after b [] = []
 left_after b ([] ∷ rows) = left_after b rows
-left_after b ((range ∷ row) ∷ rows) = cond (holds range b) (row ∷ left_after b rows) (left_after b rows)
+left_after b ((range ∷ row) ∷ rows) = if holds range b then row ∷ left_after b rows else left_after b rows
 
 -- With no row left the sequence is ill-formed; a row with nothing left is a sequence at its end.
 abbrev pub came_to : List Row → ℕ → Progress
@@ -43,7 +43,7 @@ run p (b ∷ bs) = run (step p b) bs
 -- How many first bytes of a list together begin one of these rows.
 abbrev pub begun : List Row → List ℕ → ℕ
 begun rows [] = 0
-begun rows (b ∷ bs) = cond (none_left (left_after b rows)) 0 (suc (begun (left_after b rows) bs))
+begun rows (b ∷ bs) = if none_left (left_after b rows) then 0 else suc (begun (left_after b rows) bs)
 
 -- What follows the well-formed front of a list.
 abbrev pub unsound : List ℕ → List ℕ

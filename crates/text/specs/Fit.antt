@@ -1,5 +1,5 @@
 -- What the check of a text answers.
-use Rattle.std.specs.Prelude.{◌≡◌, ℕ, ◌≤◌, cond, List, length, Ok, Err, IsUtf8, Result, ◌==◌, nat_lt}
+use Rattle.std.specs.Prelude.{◌≡◌, ℕ, ◌≤◌, if◌then◌else◌, List, length, Ok, Err, IsUtf8, Result, ◌==◌, nat_lt}
 use Rattle.std.specs.Str.{IsValidUpTo}
 use Rattle.text.specs.Clip.{longest}
 use Rattle.text.specs.Utf8.{sound, WellFormed}
@@ -9,8 +9,8 @@ use Rattle.text.specs.declared.fault.TextFault.TheVariants.{TooLong, IllFormed}
 -- A text that is too long is not looked into. Else the fault is at the first sequence that is not well formed.
 abbrev pub checked : List ℕ → Result (Unit {0}) TextFault
 checked bs =
-    cond (nat_lt longest (length bs)) (Err TooLong)
-    (cond (sound bs == length bs) (Ok tt) (Err (IllFormed (sound bs))))
+    if nat_lt longest (length bs) then Err TooLong
+    else (if sound bs == length bs then Ok tt else Err (IllFormed (sound bs)))
 
 -- The table agrees with the encoding of characters: a list is well formed exactly if it is `IsUtf8`, the encodings
 -- of scalar values one after another.

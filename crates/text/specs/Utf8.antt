@@ -1,5 +1,5 @@
 -- Well-formed UTF-8, from the table of well-formed byte sequences in the Unicode Standard (Table 3-7).
-use Rattle.std.specs.Prelude.{◌≡◌, ℕ, zero, suc, pred, Bool, true, false, cond, ◌&&◌, List, [], ◌∷◌, length, ◌==◌, nat_le}
+use Rattle.std.specs.Prelude.{◌≡◌, ℕ, zero, suc, pred, Bool, true, false, if◌then◌else◌, ◌&&◌, List, [], ◌∷◌, length, ◌==◌, nat_le}
 
 -- A range of bytes: the lowest and the highest.
 abbrev pub Range : Type 0
@@ -39,7 +39,7 @@ matches (range ∷ row) (b ∷ bs) = holds range b && matches row bs
 -- The length of the first row that the first bytes of a list match, or 0 if they match none.
 abbrev pub matched : List Row → List ℕ → ℕ
 matched [] bs = 0
-matched (row ∷ rows) bs = cond (matches row bs) (length row) (matched rows bs)
+matched (row ∷ rows) bs = if matches row bs then length row else matched rows bs
 
 -- The length of the well-formed sequence at the front of a list, or 0 if none stands there.
 unfoldable pub sequence : List ℕ → ℕ
@@ -50,7 +50,7 @@ sequence bs = matched table bs
 unfoldable pub sound_after : ℕ → List ℕ → ℕ
 sound_after n [] = 0
 sound_after (suc n) (b ∷ bs) = suc (sound_after n bs)
-sound_after zero (b ∷ bs) = cond (sequence (b ∷ bs) == 0) 0 (suc (sound_after (pred (sequence (b ∷ bs))) bs))
+sound_after zero (b ∷ bs) = if sequence (b ∷ bs) == 0 then 0 else suc (sound_after (pred (sequence (b ∷ bs))) bs)
 
 -- The length of the well-formed front of a list: the place of the fault, if it is not the end.
 abbrev pub sound : List ℕ → ℕ
