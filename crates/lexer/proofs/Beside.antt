@@ -3,7 +3,7 @@ use Rattle.std.proofs.Common.{◌≡◌, ℕ, zero, suc, ◌+◌, ◌<◌, Bool,
 use Rattle.lexer.proofs.Dollars.{opener_within, opens_sign}
 use Rattle.lexer.proofs.Stopped.{at_later, command_stopped, parameter_stopped}
 use Rattle.lexer.specs.Class.{backslash, tag_cont, whitespace}
-use Rattle.lexer.specs.Comment.{closes, comment, opens}
+use Rattle.lexer.specs.Comment.{closes, comment, Extent, commented, opens}
 use Rattle.lexer.specs.Cursor.{peek, run}
 use Rattle.lexer.specs.Dollar.{begins, delimited, dollar_delimiter, dollar_len, dollar_opener, dollar_quoted, opens_dollar}
 use Rattle.lexer.specs.Psql.{psql_len}
@@ -50,15 +50,15 @@ quoted_beside q e low b (x ∷ y ∷ xs) =
 
 -- a comment that is closed ends with `/`
 pub comment_beside : (d b : ℕ) → (d ≡ 0 → b < 128) → (xs : List ℕ) → Beside b xs (comment d xs)
-unfolding comment
+unfolding commented
 comment_beside zero b low xs = inl (low refl)
 comment_beside (suc d) b low [] = inr (omega arith)
 comment_beside (suc d) b low (x ∷ []) = inr (omega arith)
 comment_beside (suc d) b low (x ∷ y ∷ xs) =
     let bs = x ∷ y ∷ xs in
-    cond_both (opens x y) _ _ (Beside b bs)
+    cond_both {A = Extent} (opens x y) _ _ (λ e. Beside b bs e.len)
     (λ _. two_later b x y xs (comment (suc (suc d)) xs) (comment_beside (suc (suc d)) y (λ z. absurd (omega (arith, z))) xs))
-    (λ _. cond_both (closes x y) _ _ (Beside b bs)
+    (λ _. cond_both {A = Extent} (closes x y) _ _ (λ e. Beside b bs e.len)
     (λ shut. two_later b x y xs (comment d xs) (comment_beside d y (λ _. omega (arith, eqb-true y 47 (and_parts (eqb x 42) (eqb y 47) shut).1)) xs))
     (λ _. later b x (y ∷ xs) (comment (suc d) (y ∷ xs)) (comment_beside (suc d) x (λ z. absurd (omega (arith, z))) (y ∷ xs))))
 

@@ -1,5 +1,5 @@
 -- A psql command goes by its own bytes and the two after it.
-use Rattle.std.proofs.Common.{◌≡◌, ℕ, ◌+◌, ◌≤◌, Bool, true, false, cond, ◌&&◌, ◌||◌, eqb, List, [], ◌∷◌, ◌++◌, length, refl, ap, arith}
+use Rattle.std.proofs.Common.{None, ◌≡◌, ℕ, ◌+◌, ◌≤◌, Bool, true, false, cond, ◌&&◌, ◌||◌, eqb, List, [], ◌∷◌, ◌++◌, length, refl, ap, arith}
 use Rattle.lexer.proofs.Decided.{Decided, both_counted, chosen, in_turn, seen}
 use Rattle.lexer.proofs.DecidedParts.{arguments_decided, options_decided, run_decided}
 use Rattle.lexer.specs.Class.{all_but, command_letter, line_blank}
@@ -13,7 +13,7 @@ use Rattle.lexer.specs.declared.token.TokenKind.TheVariants.{Colon, PsqlCommand,
 module _ (k : Command) where
   opened_decided : Decided (opened_options k) (opened_options k)
   opened_decided =
-      chosen (λ xs. k.takes_options && eqb (peek 0 xs) 40) (options Outside 0) (λ _. 0) (options Outside 0) (λ _. 0) (seen (opened_options k) (λ a _. k.takes_options && eqb a 40)) (options_decided Outside 0) (λ _ _ _ _. refl)
+      chosen (λ xs. k.takes_options && eqb (peek 0 xs) 40) (options Outside None) (λ _. 0) (options Outside None) (λ _. 0) (seen (opened_options k) (λ a _. k.takes_options && eqb a 40)) (options_decided Outside None) (λ _ _ _ _. refl)
 
   before_decided : Decided (before_pipe k) (before_pipe k)
   before_decided =

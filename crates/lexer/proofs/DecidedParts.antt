@@ -1,16 +1,21 @@
 -- Each part of a token goes by its own bytes and the two after it.
-use Rattle.std.proofs.Common.{◌≡◌, ℕ, zero, suc, ◌+◌, ◌≤◌, Bool, true, false, cond, ◌&&◌, ◌||◌, eqb, List, [], ◌∷◌, ◌++◌, length, refl, ap, ◌∙◌, inl, inr, arith}
+use Rattle.std.proofs.Common.{Option, None, ◌≡◌, ℕ, zero, suc, ◌+◌, ◌≤◌, Bool, true, false, cond, ◌&&◌, ◌||◌, eqb, List, [], ◌∷◌, ◌++◌, length, refl, ap, ◌∙◌, inl, inr, arith}
 use Rattle.lexer.proofs.Decided.{Decided, alike, chosen}
 use Rattle.lexer.specs.Class.{backslash, ident_cont, ident_start, line_blank}
-use Rattle.lexer.specs.Comment.{closes, comment, comment_closed, opens}
+use Rattle.lexer.specs.Comment.{closes, comment, comment_closed, commented, further, opens}
 use Rattle.lexer.specs.Cursor.{digit_met, digits, identifier, leads, run}
 use Rattle.lexer.specs.Dollar.{begins, delimited, delimited_closed}
-use Rattle.lexer.specs.PsqlArg.{after, arguments, last_after, options, separates, stops}
+use Rattle.lexer.specs.PsqlArg.{after, arguments, is_parenthesis, last_after, options, separates, stops}
 use Rattle.lexer.specs.Quoted.{quoted, quoted_closed}
 use Rattle.lexer.specs.declared.psql_arg.ArgState.{ArgState}
 use Rattle.lexer.specs.declared.psql_arg.ArgState.TheVariants.{Outside}
 use Rattle.std.proofs.lemmas.List.{length-append}
 use Rattle.std.proofs.lemmas.Bool.{cases_Bool}
+
+-- the same, where what is chosen holds the count
+alike_by : {Y : Type 0} (count : Y → ℕ) (b : Bool) {l : ℕ} {y z u v : Y} → (count u + 2 ≤ l → y ≡ u) → (count v + 2 ≤ l → z ≡ v) → count (cond b u v) + 2 ≤ l → cond b y z ≡ cond b u v
+alike_by count true f g h = f h
+alike_by count false f g h = g h
 
 pub run_decided : (class : ℕ → Bool) → Decided (run class) (run class)
 unfolding run
@@ -43,29 +48,23 @@ module _ (digit : ℕ → Bool) where
   met_decided (x ∷ []) s t h = absurd (omega arith)
   met_decided (x ∷ y ∷ p) s t h = met_alike (digit x) (eqb x 95 && digit y) (1 + digits digit (y ∷ p ++ s)) (length (x ∷ y ∷ p)) (λ k. met_decided (y ∷ p) s t (omega arith)) h
 
+pub commented_decided : (d : ℕ) → Decided (comment d) (commented d)
+unfolding commented
+commented_decided zero p s t h = refl
+commented_decided (suc d) [] s t h = absurd (omega arith)
+commented_decided (suc d) (a ∷ []) s t h = absurd (omega arith)
+commented_decided (suc d) (a ∷ b ∷ p) s t h =
+    alike_by (λ e. e.len) (opens a b)
+    (λ k. ap (further 2) (commented_decided (suc (suc d)) p s t (omega arith)))
+    (alike_by (λ e. e.len) (closes a b)
+    (λ k. ap (further 2) (commented_decided d p s t (omega arith)))
+    (λ k. ap (further 1) (commented_decided (suc d) (b ∷ p) s t (omega arith)))) h
+
 pub comment_decided : (d : ℕ) → Decided (comment d) (comment d)
-unfolding comment
-comment_decided zero p s t h = refl
-comment_decided (suc d) [] s t h = absurd (omega arith)
-comment_decided (suc d) (a ∷ []) s t h = absurd (omega arith)
-comment_decided (suc d) (a ∷ b ∷ p) s t h =
-    alike (opens a b) (2 + comment (suc (suc d)) (p ++ s)) (cond (closes a b) (2 + comment d (p ++ s)) (1 + comment (suc d) (b ∷ p ++ s)))
-    (λ k. ap (λ n. 2 + n) (comment_decided (suc (suc d)) p s t (omega arith)))
-    (alike (closes a b) (2 + comment d (p ++ s)) (1 + comment (suc d) (b ∷ p ++ s))
-    (λ k. ap (λ n. 2 + n) (comment_decided d p s t (omega arith)))
-    (λ k. ap (λ n. 1 + n) (comment_decided (suc d) (b ∷ p) s t (omega arith)))) h
+comment_decided d p s t h = ap (λ e. e.len) (commented_decided d p s t h)
 
 pub comment_closed_decided : (d : ℕ) → Decided (comment d) (comment_closed d)
-unfolding comment comment_closed
-comment_closed_decided zero p s t h = refl
-comment_closed_decided (suc d) [] s t h = absurd (omega arith)
-comment_closed_decided (suc d) (a ∷ []) s t h = absurd (omega arith)
-comment_closed_decided (suc d) (a ∷ b ∷ p) s t h =
-    alike (opens a b) (2 + comment (suc (suc d)) (p ++ s)) (cond (closes a b) (2 + comment d (p ++ s)) (1 + comment (suc d) (b ∷ p ++ s)))
-    (λ k. comment_closed_decided (suc (suc d)) p s t (omega arith))
-    (alike (closes a b) (2 + comment d (p ++ s)) (1 + comment (suc d) (b ∷ p ++ s))
-    (λ k. comment_closed_decided d p s t (omega arith))
-    (λ k. comment_closed_decided (suc d) (b ∷ p) s t (omega arith))) h
+comment_closed_decided d p s t h = ap (λ e. e.closed) (commented_decided d p s t h)
 
 module _ (quote : ℕ) (escapes : Bool) where
   pub quoted_decided : Decided (quoted quote escapes) (quoted quote escapes)
@@ -96,16 +95,16 @@ arguments_decided state [] s t h = absurd (omega arith)
 arguments_decided state (x ∷ p) s t h =
     alike (stops state x) 0 (1 + arguments (after state x) (p ++ s)) (λ _. refl) (λ k. ap (λ n. 1 + n) (arguments_decided (after state x) p s t (omega arith))) h
 
-pub options_decided : (state : ArgState) (last : ℕ) → Decided (options state last) (options state last)
+pub options_decided : (state : ArgState) (last : Option ℕ) → Decided (options state last) (options state last)
 unfolding options
 options_decided state last [] s t h = absurd (omega arith)
 options_decided state last (x ∷ p) s t h =
-    let next = 1 + options Outside 0 (p ++ s) in
+    let next = 1 + options Outside None (p ++ s) in
     let blanks = run line_blank (x ∷ p ++ s) in
     let more = 1 + options (after state x) (last_after state last x) (p ++ s) in
-    alike (stops state x) 0 (cond (separates state x) (cond (eqb last 41) blanks next) more) (λ _. refl)
-    (alike (separates state x) (cond (eqb last 41) blanks next) more
-    (alike (eqb last 41) blanks next (run_decided line_blank (x ∷ p) s t) (λ k. ap (λ n. 1 + n) (options_decided Outside 0 p s t (omega arith))))
+    alike (stops state x) 0 (cond (separates state x) (cond (is_parenthesis last) blanks next) more) (λ _. refl)
+    (alike (separates state x) (cond (is_parenthesis last) blanks next) more
+    (alike (is_parenthesis last) blanks next (run_decided line_blank (x ∷ p) s t) (λ k. ap (λ n. 1 + n) (options_decided Outside None p s t (omega arith))))
     (λ k. ap (λ n. 1 + n) (options_decided (after state x) (last_after state last x) p s t (omega arith)))) h
 
 -- a delimiter is found, or not, within as many bytes as it has

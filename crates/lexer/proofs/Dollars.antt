@@ -4,9 +4,8 @@ use Rattle.lexer.proofs.Moves.{moved_by, moved_rest, moved_trans, next_one}
 use Rattle.lexer.proofs.Rest.{within}
 use Rattle.lexer.proofs.Runs.{identifier_within, run_within, then_within}
 use Rattle.lexer.specs.Class.{decimal, ident_start, tag_cont}
-use Rattle.lexer.specs.Cursor.{Moved, identifier, next_len, peek, rest, run}
+use Rattle.lexer.specs.Cursor.{Moved, Spot, identifier, next_len, peek, rest, run}
 use Rattle.lexer.specs.Dollar.{begins, delimited, delimited_closed, dollar_delimiter, dollar_len, dollar_opener, opens_dollar, parameter}
-use Rattle.lexer.specs.declared.cursor.Cursor.{Cursor}
 use Rattle.std.proofs.lemmas.List.{drop_all, drop_more, get_or-drop, get_or-take, length-drop, length-take-le}
 use Rattle.std.proofs.lemmas.Bool.{and_parts, and_right, cases_Bool, or_cases}
 use borrow.Author.Tests.{clash}
@@ -64,12 +63,12 @@ pub opener_within : (xs : List ℕ) → opens_dollar xs ≡ true → dollar_open
 opener_within xs e = let h = within xs (run tag_cont xs) 35 (opens_sign xs e) in omega arith
 
 -- over the tag and the `$` after it
-pub opener_moved : {T : Type 0} (bytes : T → List ℕ) {c d e : Cursor T} → opens_dollar (rest bytes c) ≡ true → Moved c d (run tag_cont (rest bytes c)) → Moved d e (next_len (rest bytes d)) → Moved c e (dollar_opener (rest bytes c))
-opener_moved bytes {c = c} {d = d} opens tag sign =
-    let xs = rest bytes c in
+pub opener_moved : {c d e : Spot} → opens_dollar (rest c) ≡ true → Moved c d (run tag_cont (rest c)) → Moved d e (next_len (rest d)) → Moved c e (dollar_opener (rest c))
+opener_moved {c = c} {d = d} opens tag sign =
+    let xs = rest c in
     let n = run tag_cont xs in
     let next : peek 0 (drop n xs) ≡ 36 = get_or-drop n xs 0 0 ∙ ap (λ k. get_or xs k 0) (omega arith) ∙ opens_sign xs opens in
-    let one : next_len (rest bytes d) ≡ 1 = ap next_len (moved_rest bytes tag) ∙ next_one (drop n xs) 35 next in
+    let one : next_len (rest d) ≡ 1 = ap next_len (moved_rest tag) ∙ next_one (drop n xs) 35 next in
     moved_trans tag (moved_by one sign)
 
 module _ (delimiter : List ℕ) where

@@ -3,7 +3,7 @@ mod Begins
 mod Beside
 mod Between
 mod Bodies
-mod Comments
+pub mod Comments
 pub mod Cuts
 mod Decided
 mod DecidedCommands
@@ -37,4 +37,5 @@ mod Starts
 mod Stopped
 mod Table
 mod TokenLaws
+pub mod Turns
 mod Within

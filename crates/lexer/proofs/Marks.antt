@@ -1,6 +1,6 @@
 -- The marks of a block comment, counted, tell how many comments are open.
 use Rattle.std.proofs.Common.{◌≡◌, ℕ, zero, suc, ◌+◌, ◌<◌, true, false, List, [], ◌∷◌, length, take, sym, refl, ap, ◌∙◌, inl, inr, arith}
-use Rattle.lexer.specs.Comment.{closes, comment, comment_closed, opens}
+use Rattle.lexer.specs.Comment.{Extent, closes, comment, comment_closed, commented, further, opens}
 use Rattle.lexer.specs.TokenLaws.{closers, openers}
 use Rattle.std.proofs.lemmas.Bool.{cases_Bool}
 use borrow.Author.Tests.{clash}
@@ -21,17 +21,27 @@ module _ (a b : ℕ) (xs : List ℕ) where
 
   -- and what they make of the comments that are open
   module _ (d : ℕ) where
-    opener_deepens : opens a b ≡ true → (comment (suc d) (a ∷ b ∷ xs) ≡ suc (suc (comment (suc (suc d)) xs))) × (comment_closed (suc d) (a ∷ b ∷ xs) ≡ comment_closed (suc (suc d)) xs)
-    unfolding comment comment_closed
-    opener_deepens o = (simp o (omega arith), simp o)
+    opener_deepens : opens a b ≡ true → commented (suc d) (a ∷ b ∷ xs) ≡ further 2 (commented (suc (suc d)) xs)
+    unfolding commented
+    opener_deepens o = simp o
 
-    closer_shuts : opens a b ≡ false → closes a b ≡ true → (comment (suc d) (a ∷ b ∷ xs) ≡ suc (suc (comment d xs))) × (comment_closed (suc d) (a ∷ b ∷ xs) ≡ comment_closed d xs)
-    unfolding comment comment_closed
-    closer_shuts o c = (simp (o, c) (omega arith), simp (o, c))
+    closer_shuts : opens a b ≡ false → closes a b ≡ true → commented (suc d) (a ∷ b ∷ xs) ≡ further 2 (commented d xs)
+    unfolding commented
+    closer_shuts o c = simp (o, c)
 
-    neither_moves : opens a b ≡ false → closes a b ≡ false → (comment (suc d) (a ∷ b ∷ xs) ≡ suc (comment (suc d) (b ∷ xs))) × (comment_closed (suc d) (a ∷ b ∷ xs) ≡ comment_closed (suc d) (b ∷ xs))
-    unfolding comment comment_closed
-    neither_moves o c = (simp (o, c) (omega arith), simp (o, c))
+    neither_moves : opens a b ≡ false → closes a b ≡ false → commented (suc d) (a ∷ b ∷ xs) ≡ further 1 (commented (suc d) (b ∷ xs))
+    unfolding commented
+    neither_moves o c = simp (o, c)
+
+-- what an equation of extents says of both parts
+long : {d : Extent} (e : Extent) → d ≡ further 2 e → d.len ≡ suc (suc e.len)
+long e s = ap (λ (x : Extent). x.len) s ∙ omega arith
+
+longer : {d : Extent} (e : Extent) → d ≡ further 1 e → d.len ≡ suc e.len
+longer e s = ap (λ (x : Extent). x.len) s ∙ omega arith
+
+shut : {d e : Extent} → d ≡ e → d.closed ≡ e.closed
+shut s = ap (λ (x : Extent). x.closed) s
 
 -- of less than two bytes, no mark
 few_marks : (n d : ℕ) (xs : List ℕ) → length (take n xs) < 2 → closers (take n xs) < suc d + openers (take n xs)
@@ -43,7 +53,7 @@ few_marks (suc (suc n)) d (a ∷ []) h = omega arith
 few_marks (suc (suc n)) d (a ∷ b ∷ xs) h = absurd (omega arith)
 
 none_open : (xs : List ℕ) (n : ℕ) → (comment_closed 0 xs ≡ true → n < comment 0 xs) → ⊥
-unfolding comment comment_closed
+unfolding commented
 none_open xs n h = let z = h refl in omega arith
 
 -- before the outermost of so many open comments is closed, each front closes fewer than were open and it opens
@@ -60,39 +70,39 @@ fewer_closers (suc d) (a ∷ b ∷ xs) (suc (suc n)) h =
       | inl o ↦
           let adds = opener_adds a b front o in
           let moves = opener_deepens a b xs d o in
-          let more = fewer_closers (suc (suc d)) xs n (λ k. let m = h (moves.1 ∙ k) in omega arith) in
+          let more = fewer_closers (suc (suc d)) xs n (λ k. let m = h (shut moves ∙ k) in omega (arith, long _ moves)) in
           omega arith
       | inr o ↦
           elim (cases_Bool (closes a b)) [
             | inl c ↦
                 let adds = closer_adds a b front o c in
                 let moves = closer_shuts a b xs d o c in
-                let more = fewer_closers d xs n (λ k. let m = h (moves.1 ∙ k) in omega arith) in
+                let more = fewer_closers d xs n (λ k. let m = h (shut moves ∙ k) in omega (arith, long _ moves)) in
                 omega arith
             | inr c ↦
                 let adds = neither_adds a b front o c in
                 let moves = neither_moves a b xs d o c in
-                let more = fewer_closers (suc d) (b ∷ xs) (suc n) (λ k. let m = h (moves.1 ∙ k) in omega arith) in
+                let more = fewer_closers (suc d) (b ∷ xs) (suc n) (λ k. let m = h (shut moves ∙ k) in omega (arith, longer _ moves)) in
                 omega arith
           ]
     ]
 
 -- an open comment that is closed has a byte or more
 some_left : (d b : ℕ) (xs : List ℕ) → 0 < comment (suc d) (b ∷ xs)
-unfolding comment
+unfolding commented
 some_left d b [] = omega arith
 some_left d b (c ∷ xs) = grind arith
 
 nothing : (xs : List ℕ) → closers (take (comment 0 xs) xs) ≡ 0 + openers (take (comment 0 xs) xs)
-unfolding comment openers closers
+unfolding commented openers closers
 nothing xs = refl
 
 short_open : (d : ℕ) → comment_closed (suc d) [] ≡ false
-unfolding comment_closed
+unfolding commented
 short_open d = refl
 
 byte_open : (d a : ℕ) → comment_closed (suc d) (a ∷ []) ≡ false
-unfolding comment_closed
+unfolding commented
 byte_open d a = refl
 
 -- a byte that begins no mark counts for nothing
@@ -105,7 +115,7 @@ unmarked_closed d a b xs o c more (suc n) e =
     let bytes = a ∷ b ∷ xs in
     let moves = neither_moves a b xs d o c in
     let adds = neither_adds a b (take n xs) o c in
-    let front : take (comment (suc d) bytes) bytes ≡ a ∷ b ∷ take n xs = ap (λ m. take m bytes) (moves.0 ∙ ap suc e) in
+    let front : take (comment (suc d) bytes) bytes ≡ a ∷ b ∷ take n xs = ap (λ m. take m bytes) (longer _ moves ∙ ap suc e) in
     let back : take (comment (suc d) (b ∷ xs)) (b ∷ xs) ≡ b ∷ take n xs = ap (λ m. take m (b ∷ xs)) e in
     omega (arith, ap closers front, ap openers front, ap closers back, ap openers back)
 
@@ -121,8 +131,8 @@ all_closed (suc d) (a ∷ b ∷ xs) k =
           let moves = opener_deepens a b xs d o in
           let n = comment (suc (suc d)) xs in
           let adds = opener_adds a b (take n xs) o in
-          let front : take (comment (suc d) bytes) bytes ≡ a ∷ b ∷ take n xs = ap (λ m. take m bytes) moves.0 in
-          let more = all_closed (suc (suc d)) xs (sym moves.1 ∙ k) in
+          let front : take (comment (suc d) bytes) bytes ≡ a ∷ b ∷ take n xs = ap (λ m. take m bytes) (long _ moves) in
+          let more = all_closed (suc (suc d)) xs (sym (shut moves) ∙ k) in
           omega (arith, ap closers front, ap openers front)
       | inr o ↦
           elim (cases_Bool (closes a b)) [
@@ -130,29 +140,29 @@ all_closed (suc d) (a ∷ b ∷ xs) k =
                 let moves = closer_shuts a b xs d o c in
                 let n = comment d xs in
                 let adds = closer_adds a b (take n xs) o c in
-                let front : take (comment (suc d) bytes) bytes ≡ a ∷ b ∷ take n xs = ap (λ m. take m bytes) moves.0 in
-                let more = all_closed d xs (sym moves.1 ∙ k) in
+                let front : take (comment (suc d) bytes) bytes ≡ a ∷ b ∷ take n xs = ap (λ m. take m bytes) (long _ moves) in
+                let more = all_closed d xs (sym (shut moves) ∙ k) in
                 omega (arith, ap closers front, ap openers front)
-            | inr c ↦ unmarked_closed d a b xs o c (all_closed (suc d) (b ∷ xs) (sym (neither_moves a b xs d o c).1 ∙ k)) (comment (suc d) (b ∷ xs)) refl
+            | inr c ↦ unmarked_closed d a b xs o c (all_closed (suc d) (b ∷ xs) (sym (shut (neither_moves a b xs d o c)) ∙ k)) (comment (suc d) (b ∷ xs)) refl
           ]
     ]
 
 none_unclosed : (xs : List ℕ) → comment_closed 0 xs ≡ true
-unfolding comment_closed
+unfolding commented
 none_unclosed xs = refl
 
 -- where it is not closed, it is all there is
 pub unclosed_whole : (d : ℕ) (xs : List ℕ) → comment_closed d xs ≡ false → comment d xs ≡ length xs
-unfolding comment
+unfolding commented
 unclosed_whole zero xs k = absurd (clash (sym k ∙ none_unclosed xs))
 unclosed_whole (suc d) [] k = refl
 unclosed_whole (suc d) (a ∷ []) k = refl
 unclosed_whole (suc d) (a ∷ b ∷ xs) k =
     elim (cases_Bool (opens a b)) [
-      | inl o ↦ let more = unclosed_whole (suc (suc d)) xs (sym (opener_deepens a b xs d o).1 ∙ k) in (opener_deepens a b xs d o).0 ∙ omega arith
+      | inl o ↦ let more = unclosed_whole (suc (suc d)) xs (sym (shut (opener_deepens a b xs d o)) ∙ k) in long _ (opener_deepens a b xs d o) ∙ omega arith
       | inr o ↦
           elim (cases_Bool (closes a b)) [
-            | inl c ↦ let more = unclosed_whole d xs (sym (closer_shuts a b xs d o c).1 ∙ k) in (closer_shuts a b xs d o c).0 ∙ omega arith
-            | inr c ↦ let more = unclosed_whole (suc d) (b ∷ xs) (sym (neither_moves a b xs d o c).1 ∙ k) in (neither_moves a b xs d o c).0 ∙ omega arith
+            | inl c ↦ let more = unclosed_whole d xs (sym (shut (closer_shuts a b xs d o c)) ∙ k) in long _ (closer_shuts a b xs d o c) ∙ omega arith
+            | inr c ↦ let more = unclosed_whole (suc d) (b ∷ xs) (sym (shut (neither_moves a b xs d o c)) ∙ k) in longer _ (neither_moves a b xs d o c) ∙ omega arith
           ]
     ]

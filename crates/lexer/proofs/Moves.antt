@@ -1,7 +1,6 @@
 -- How moves of the cursor join.
-use Rattle.std.proofs.Common.{◌≡◌, ℕ, zero, suc, ◌+◌, ◌-◌, ◌≤◌, Bool, true, false, eqb, List, [], ◌∷◌, drop, sym, refl, ap, ◌∙◌, subst, arith, eq-eqb, ne_eqb}
-use Rattle.lexer.specs.Cursor.{Moved, next_len, peek, rest}
-use Rattle.lexer.specs.declared.cursor.Cursor.{Cursor}
+use Rattle.std.proofs.Common.{◌≡◌, ℕ, zero, suc, ◌+◌, Bool, true, false, eqb, List, [], ◌∷◌, drop, sym, refl, ap, ◌∙◌, subst, arith, eq-eqb, ne_eqb}
+use Rattle.lexer.specs.Cursor.{Moved, Spot, next_len, peek, rest}
 use Rattle.std.proofs.lemmas.List.{drop-drop}
 
 true_not_false : true ≡ false → ⊥
@@ -22,59 +21,44 @@ pub unmoved : (p q n : ℕ) → q ≡ p + n → eqb q p ≡ eqb n 0
 unmoved p q zero e = eq-eqb q p (omega arith) ∙ sym (eq-eqb 0 0 refl)
 unmoved p q (suc n) e = ne_eqb q p (λ h. omega arith) ∙ sym (ne_eqb (suc n) 0 (λ h. omega arith))
 
-module _ {T : Type 0} where
-  -- a cursor that stays
-  pub stayed : (c : Cursor T) → Moved c c 0
-  stayed c = record { text = refl; start = refl; place = omega arith }
+-- a cursor that stays
+pub stayed : (c : Spot) → Moved c c 0
+stayed c = record { text = refl; place = omega arith; eaten = omega arith }
 
-  -- the same move, its end said otherwise
-  pub moved_into : {c d e : Cursor T} {n : ℕ} → e ≡ d → Moved c d n → Moved c e n
-  moved_into {c = c} {n = n} q p = subst (λ (x : Cursor T). Moved c x n) (sym q) p
+-- the same move, its end said otherwise
+pub moved_into : {c d e : Spot} {n : ℕ} → e ≡ d → Moved c d n → Moved c e n
+moved_into {c = c} {n = n} q p = subst (λ (x : Spot). Moved c x n) (sym q) p
 
-  -- the same move, its length said otherwise
-  pub moved_by : {c d : Cursor T} {m n : ℕ} → m ≡ n → Moved c d m → Moved c d n
-  moved_by {c = c} {d = d} e p = record { text = p.text; start = p.start; place = p.place ∙ ap (λ k. c.place + k) e }
+-- the same move, its length said otherwise
+pub moved_by : {c d : Spot} {m n : ℕ} → m ≡ n → Moved c d m → Moved c d n
+moved_by {c = c} {d = d} e p = subst (λ (k : ℕ). Moved c d k) e p
 
-  pub moved_trans : {c d e : Cursor T} {m n : ℕ} → Moved c d m → Moved d e n → Moved c e (m + n)
-  moved_trans p q =
-      let first = p.place in
-      let then = q.place in
-      record { text = q.text ∙ p.text; start = q.start ∙ p.start; place = omega arith }
+pub moved_trans : {c d e : Spot} {m n : ℕ} → Moved c d m → Moved d e n → Moved c e (m + n)
+moved_trans p q =
+    let place = p.place in
+    let eaten = p.eaten in
+    let then = q.place in
+    let more = q.eaten in
+    record { text = q.text ∙ p.text; place = omega arith; eaten = omega arith }
 
-  -- how far it then stands from the token's start
-  pub moved_pos : {c d : Cursor T} {n : ℕ} → Moved c d n → c.start ≤ c.place → d.place - d.start ≡ c.place - c.start + n
-  moved_pos p h =
-      let at = p.place in
-      let from = p.start in
-      omega arith
+-- what follows after a move
+pub moved_rest : {c d : Spot} {n : ℕ} → Moved c d n → rest d ≡ drop n (rest c)
+moved_rest {c = c} {d = d} {n = n} p = ap (drop d.place) p.text ∙ ap (λ k. drop k c.text) p.place ∙ sym (drop-drop n c.place c.text)
 
-  pub moved_order : {c d : Cursor T} {n : ℕ} → Moved c d n → c.start ≤ c.place → d.start ≤ d.place
-  moved_order p h =
-      let at = p.place in
-      let from = p.start in
-      omega arith
+-- the same move, its beginning said otherwise
+pub moved_from : {c d e : Spot} → d ≡ c → (f : List ℕ → ℕ) → Moved d e (f (rest d)) → Moved c e (f (rest c))
+moved_from {e = e} q f p = subst (λ (x : Spot). Moved x e (f (rest x))) q p
 
-  module _ (bytes : T → List ℕ) where
-    -- what follows after a move
-    pub moved_rest : {c d : Cursor T} {n : ℕ} → Moved c d n → rest bytes d ≡ drop n (rest bytes c)
-    moved_rest {c = c} {d = d} {n = n} p =
-        ap (λ t. drop d.place (bytes t.now)) p.text ∙ ap (λ k. drop k (bytes c.text.now)) p.place ∙ sym (drop-drop n c.place (bytes c.text.now))
+-- a move by what follows after another
+pub moved_then : (f : List ℕ → ℕ) {c d e : Spot} {n : ℕ} → Moved c d n → Moved d e (f (rest d)) → Moved c e (n + f (drop n (rest c)))
+moved_then f {n = n} p q = moved_by (ap (λ l. n + f l) (moved_rest p)) (moved_trans p q)
 
-    -- the same move, its beginning said otherwise
-    pub moved_from : {c d e : Cursor T} → d ≡ c → (f : List ℕ → ℕ) → Moved d e (f (rest bytes d)) → Moved c e (f (rest bytes c))
-    moved_from {e = e} q f p = subst (λ (x : Cursor T). Moved x e (f (rest bytes x))) q p
+-- how many bytes of the token are eaten after a further move
+pub eaten_then : (f : List ℕ → ℕ) {c d : Spot} {ys : List ℕ} {p q : ℕ}
+    → Moved c d (f (rest c)) → rest c ≡ ys → p ≡ c.eaten → q ≡ d.eaten → q ≡ p + f ys
+eaten_then f {c = c} {ys = ys} {p = p} m e a b = b ∙ m.eaten ∙ ap (λ l. c.eaten + f l) e ∙ ap (λ k. k + f ys) (sym a)
 
-    -- a move by what follows after another
-    pub moved_then : (f : List ℕ → ℕ) {c d e : Cursor T} {n : ℕ} → Moved c d n → Moved d e (f (rest bytes d)) → Moved c e (n + f (drop n (rest bytes c)))
-    moved_then f {n = n} p q = moved_by (ap (λ l. n + f l) (moved_rest p)) (moved_trans p q)
-
-    -- how far the cursor stands from the token's start after a further move
-    pub pos_then : (f : List ℕ → ℕ) {c d : Cursor T} {ys : List ℕ} {p q : ℕ}
-        → Moved c d (f (rest bytes c)) → c.start ≤ c.place → rest bytes c ≡ ys → p ≡ c.place - c.start → q ≡ d.place - d.start → q ≡ p + f ys
-    pos_then f {c = c} {ys = ys} {p = p} m h e a b = b ∙ moved_pos m h ∙ ap (λ l. c.place - c.start + f l) e ∙ ap (λ k. k + f ys) (sym a)
-
-    -- what is said of the cursor after a move, said of it before
-    pub said_then : {K : Type 0} (k : ℕ → List ℕ → K) {c d : Cursor T} {n : ℕ} {r : K}
-        → Moved c d n → c.start ≤ c.place → r ≡ k (d.place - d.start) (rest bytes d) → r ≡ k (c.place - c.start + n) (drop n (rest bytes c))
-    said_then k {c = c} {d = d} {n = n} m h e =
-        e ∙ ap (λ p. k p (rest bytes d)) (moved_pos m h) ∙ ap (k (c.place - c.start + n)) (moved_rest m)
+-- what is said of the cursor after a move, said of it before
+pub said_then : {K : Type 0} (k : ℕ → List ℕ → K) {c d : Spot} {n : ℕ} {r : K}
+    → Moved c d n → r ≡ k d.eaten (rest d) → r ≡ k (c.eaten + n) (drop n (rest c))
+said_then k {c = c} {d = d} {n = n} m e = e ∙ ap (λ p. k p (rest d)) m.eaten ∙ ap (k (c.eaten + n)) (moved_rest m)

@@ -1,10 +1,10 @@
 -- A psql command ends within the text.
-use Rattle.std.proofs.Common.{◌≡◌, ℕ, ◌+◌, ◌-◌, ◌≤◌, Bool, true, ◌&&◌, ◌||◌, eqb, List, [], ◌∷◌, length, drop, arith}
+use Rattle.std.proofs.Common.{Option, None, ◌≡◌, ℕ, ◌+◌, ◌-◌, ◌≤◌, Bool, true, ◌&&◌, ◌||◌, eqb, List, [], ◌∷◌, length, drop, arith}
 use Rattle.lexer.proofs.Runs.{run_within, then_within}
 use Rattle.lexer.specs.Class.{all_but, command_letter, line_blank}
 use Rattle.lexer.specs.Cursor.{peek, run}
 use Rattle.lexer.specs.Psql.{before_pipe, command, command_len, followed, opened_options, psql_len, what_follows}
-use Rattle.lexer.specs.PsqlArg.{after, arguments, last_after, options, separates, stops}
+use Rattle.lexer.specs.PsqlArg.{after, arguments, is_parenthesis, last_after, options, separates, stops}
 use Rattle.lexer.specs.declared.psql.Command.{Command}
 use Rattle.lexer.specs.declared.psql_arg.ArgState.{ArgState}
 use Rattle.lexer.specs.declared.psql_arg.ArgState.TheVariants.{Outside}
@@ -25,15 +25,15 @@ arguments_within state (x ∷ xs) =
     let more = arguments_within (after state x) xs in
     cond_both (stops state x) 0 (1 + arguments (after state x) xs) (λ n. n ≤ length (x ∷ xs)) (λ _. omega arith) (λ _. omega arith)
 
-pub options_within : (state : ArgState) (last : ℕ) (xs : List ℕ) → options state last xs ≤ length xs
+pub options_within : (state : ArgState) (last : Option ℕ) (xs : List ℕ) → options state last xs ≤ length xs
 unfolding options
 options_within state last [] = omega arith
 options_within state last (x ∷ xs) =
     let more = options_within (after state x) (last_after state last x) xs in
-    let next = options_within Outside 0 xs in
+    let next = options_within Outside None xs in
     let blanks = run_within line_blank (x ∷ xs) in
     cond_both (stops state x) 0 _ (λ n. n ≤ length (x ∷ xs)) (λ _. omega arith)
-    (λ _. cond_both (separates state x) _ _ (λ n. n ≤ length (x ∷ xs)) (λ _. cond_both (eqb last 41) _ _ (λ n. n ≤ length (x ∷ xs)) (λ _. blanks) (λ _. omega arith)) (λ _. omega arith))
+    (λ _. cond_both (separates state x) _ _ (λ n. n ≤ length (x ∷ xs)) (λ _. cond_both (is_parenthesis last) _ _ (λ n. n ≤ length (x ∷ xs)) (λ _. blanks) (λ _. omega arith)) (λ _. omega arith))
 
 -- two things that each end within what they are given
 pub followed_within : (f g : List ℕ → ℕ) → ((xs : List ℕ) → f xs ≤ length xs) → ((xs : List ℕ) → g xs ≤ length xs) → (xs : List ℕ) → followed f g xs ≤ length xs
@@ -41,8 +41,8 @@ followed_within f g p q xs = then_within g q (f xs) xs (p xs)
 
 opened_within : (k : Command) (xs : List ℕ) → opened_options k xs ≤ length xs
 opened_within k xs =
-    let long = options_within Outside 0 xs in
-    cond_both (k.takes_options && eqb (peek 0 xs) 40) (options Outside 0 xs) 0 (λ n. n ≤ length xs) (λ _. long) (λ _. omega arith)
+    let long = options_within Outside None xs in
+    cond_both (k.takes_options && eqb (peek 0 xs) 40) (options Outside None xs) 0 (λ n. n ≤ length xs) (λ _. long) (λ _. omega arith)
 
 before_within : (k : Command) (xs : List ℕ) → before_pipe k xs ≤ length xs
 before_within k xs =

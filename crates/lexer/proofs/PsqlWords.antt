@@ -1,6 +1,6 @@
 -- Words compared byte by byte, and lists of words searched one by one.
-use Rattle.std.proofs.Common.{◌≡◌, ℕ, ◌+◌, ◌-◌, ◌<◌, ◌≤◌, true, false, ◌&&◌, ◌||◌, eqb, List, [], ◌∷◌, map, length, get_or, take, drop, sym, refl, ap, ◌∙◌, arith, Bor}
-use Rattle.lexer.specs.Psql.{listed, spelt}
+use Rattle.std.proofs.Common.{◌≡◌, ℕ, ◌+◌, ◌-◌, ◌<◌, ◌≤◌, true, false, ◌&&◌, eqb, List, [], ◌∷◌, length, get_or, take, drop, sym, refl, ap, ◌∙◌, arith}
+use Rattle.lexer.specs.Psql.{spelt}
 use Rattle.std.proofs.lemmas.List.{drop_all, drop_more, get_or-drop, get_or-take, length-drop, length-take-le}
 use Rattle.std.proofs.lemmas.Bool.{and_right, eq-eqb, ne_eqb}
 
@@ -37,17 +37,3 @@ module _ (bs : List ℕ) (place len : ℕ) (within : len ≤ length bs - place) 
 
     pub spelt_on : b ≡ get_or word k 0 → spelt f (drop k word) (drop k (take len (drop place bs))) ≡ spelt f (drop (k + 1) word) (drop (k + 1) (take len (drop place bs)))
     spelt_on same = compared ∙ simp (eq-eqb (get_or word k 0) b (sym same))
-
-module _ (f : ℕ → ℕ) (words : List (Bor (List ℕ))) (ys : List ℕ) (k : ℕ) where
-  module _ (d : Bor (List ℕ)) (h : k < length words) where
-    listed_here : listed f (map (λ w. w.now) (drop k words)) ys ≡ (spelt f (get_or words k d).now ys || listed f (map (λ w. w.now) (drop (k + 1) words)) ys)
-    listed_here = ap (λ l. listed f (map (λ w. w.now) l) ys) (drop_more words k d h)
-
-    pub listed_found : true ≡ spelt f (get_or words k d).now ys → listed f (map (λ w. w.now) (drop k words)) ys ≡ true
-    listed_found e = listed_here ∙ simp (sym e)
-
-    pub listed_on : false ≡ spelt f (get_or words k d).now ys → listed f (map (λ w. w.now) (drop k words)) ys ≡ listed f (map (λ w. w.now) (drop (k + 1) words)) ys
-    listed_on e = listed_here ∙ simp (sym e)
-
-  pub listed_end : length words ≤ k → listed f (map (λ w. w.now) (drop k words)) ys ≡ false
-  listed_end h = ap (λ l. listed f (map (λ w. w.now) l) ys) (drop_all k words h)

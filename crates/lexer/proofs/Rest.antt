@@ -1,6 +1,6 @@
 -- What the byte at a place says of the bytes that follow it.
-use Rattle.std.proofs.Common.{◌≡◌, ℕ, zero, suc, ◌+◌, ◌<◌, ◌≤◌, Bool, true, false, cond, not, ◌&&◌, ◌||◌, eqb, List, [], ◌∷◌, length, get_or, drop, is_some, Some, None, unwrap_or, sym, refl, ap, ◌∙◌, arith}
-use Rattle.lexer.specs.Cursor.{at_end, digit_met, digits, leads, peek, run}
+use Rattle.std.proofs.Common.{◌≡◌, ℕ, zero, suc, ◌+◌, ◌<◌, ◌≤◌, Bool, cond, List, [], ◌∷◌, length, get_or, drop, Some, None, unwrap_or, sym, refl, ap, ◌∙◌, arith}
+use Rattle.lexer.specs.Cursor.{peek, run}
 use Rattle.std.proofs.lemmas.List.{drop_all, drop_more}
 use Rattle.std.specs.List.{slice_get}
 
@@ -13,16 +13,6 @@ pub slice_get_none : (xs : List ℕ) (i : ℕ) → slice_get xs i ≡ None → l
 slice_get_none [] i e = omega arith
 slice_get_none (y ∷ xs) zero e = let z : ◌≡◌ {A = ℕ} 0 1 = cc in absurd (omega arith)
 slice_get_none (y ∷ xs) (suc i) e = let h = slice_get_none xs i e in omega arith
-
-pub nth_past : (xs : List ℕ) (i : ℕ) → length xs ≤ i → slice_get xs i ≡ None
-nth_past [] i h = refl
-nth_past (y ∷ xs) zero h = absurd (omega arith)
-nth_past (y ∷ xs) (suc i) h = nth_past xs i (omega arith)
-
-pub nth_drop : (xs : List ℕ) (i n : ℕ) → slice_get (drop i xs) n ≡ slice_get xs (i + n)
-nth_drop xs zero n = let e : 0 + n ≡ n = omega arith in rw e
-nth_drop [] (suc i) n = refl
-nth_drop (x ∷ xs) (suc i) n = let e : suc i + n ≡ suc (i + n) = omega arith in rw e (nth_drop xs i n)
 
 -- what `peek` gives where there is a byte, and past the end
 pub peek_some : (xs : List ℕ) (n b : ℕ) → Some b ≡ slice_get xs n → b ≡ peek n xs
@@ -49,17 +39,6 @@ within [] i b e = absurd (omega arith)
 within (x ∷ xs) zero b e = omega arith
 within (x ∷ xs) (suc i) b e = let h = within xs i b e in omega arith
 
-at_end_front : (xs : List ℕ) (b : Bool) → is_some (slice_get xs 0) ≡ not b → b ≡ at_end xs
-at_end_front [] true e = refl
-at_end_front [] false e = e
-at_end_front (x ∷ xs) true e = e
-at_end_front (x ∷ xs) false e = refl
-
-pub at_end-slice_get : (xs : List ℕ) (i : ℕ) (b : Bool) → is_some (slice_get xs i) ≡ not b → b ≡ at_end (drop i xs)
-at_end-slice_get xs zero b e = at_end_front xs b e
-at_end-slice_get [] (suc i) b e = at_end_front [] b e
-at_end-slice_get (x ∷ xs) (suc i) b e = at_end-slice_get xs i b e
-
 module _ (xs : List ℕ) (i b : ℕ) (e : Some b ≡ slice_get xs i) where
   pub inside : i < length xs
   inside = (slice_get_some xs i b (sym e)).0
@@ -71,34 +50,6 @@ module _ (xs : List ℕ) (i b : ℕ) (e : Some b ≡ slice_get xs i) where
   unfolding run
   run_here class = ap (run class) here
 
-  pub digits_here : (digit : ℕ → Bool) → digits digit (drop i xs) ≡ cond (digit b || (eqb b 95 && leads digit (drop (i + 1) xs))) (1 + digits digit (drop (i + 1) xs)) 0
-  unfolding digits
-  digits_here digit = ap (digits digit) here
-
-  pub digit_met_here : (digit : ℕ → Bool) → digit_met digit (drop i xs) ≡ cond (digit b) true (cond (eqb b 95 && leads digit (drop (i + 1) xs)) (digit_met digit (drop (i + 1) xs)) false)
-  unfolding digit_met
-  digit_met_here digit = ap (digit_met digit) here
-
 module _ (xs : List ℕ) (i : ℕ) (e : None ≡ slice_get xs i) where
   pub past : drop i xs ≡ []
   past = drop_all i xs (slice_get_none xs i (sym e))
-
-  pub run_past : (class : ℕ → Bool) → run class (drop i xs) ≡ 0
-  unfolding run
-  run_past class = ap (run class) past
-
-  pub digits_past : (digit : ℕ → Bool) → digits digit (drop i xs) ≡ 0
-  unfolding digits
-  digits_past digit = ap (digits digit) past
-
-  pub digit_met_past : (digit : ℕ → Bool) → digit_met digit (drop i xs) ≡ false
-  unfolding digit_met
-  digit_met_past digit = ap (digit_met digit) past
-
-pub or_true : (a : Bool) → (a || true) ≡ true
-or_true true = refl
-or_true false = refl
-
-pub or_false : (a : Bool) → (a || false) ≡ a
-or_false true = refl
-or_false false = refl

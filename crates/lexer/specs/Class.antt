@@ -1,5 +1,6 @@
 -- Classes of characters, each as a test on a byte. A byte from 128 on stands for a character beyond ASCII.
 use Rattle.std.specs.Prelude.{ℕ, Bool, not, ◌&&◌, ◌||◌, ◌==◌, nat_le}
+use Rattle.lexer.specs.Byte.{byte}
 
 -- the bytes from `low` to `high`
 abbrev pub between : ℕ → ℕ → ℕ → Bool
@@ -17,34 +18,34 @@ abbrev pub line_blank : ℕ → Bool
 line_blank b = whitespace b && not (line_end b)
 
 abbrev pub backslash : ℕ → Bool
-backslash b = b == 92
+backslash b = b == byte "\\"
 
 -- what the word of a psql command is made of
 abbrev pub command_letter : ℕ → Bool
 command_letter b = not (whitespace b) && not (backslash b)
 
 abbrev pub letter : ℕ → Bool
-letter b = between 97 122 b || between 65 90 b
+letter b = between (byte "a") (byte "z") b || between (byte "A") (byte "Z") b
 
 -- 0 to 9
 abbrev pub decimal : ℕ → Bool
-decimal b = between 48 57 b
+decimal b = between (byte "0") (byte "9") b
 
 -- 0 to 9, a to f, A to F
 abbrev pub hexadecimal : ℕ → Bool
-hexadecimal b = decimal b || (between 97 102 b || between 65 70 b)
+hexadecimal b = decimal b || (between (byte "a") (byte "f") b || between (byte "A") (byte "F") b)
 
 -- a letter, a digit, `_`, `$` or a character beyond ASCII goes on with an identifier
 abbrev pub ident_cont : ℕ → Bool
-ident_cont b = letter b || (decimal b || (b == 95 || (b == 36 || nat_le 128 b)))
+ident_cont b = letter b || (decimal b || (b == byte "_" || (b == byte "$" || nat_le 128 b)))
 
 -- an identifier starts with any of these but a digit and `$`
 abbrev pub ident_start : ℕ → Bool
-ident_start b = ident_cont b && (not (decimal b) && not (b == 36))
+ident_start b = ident_cont b && (not (decimal b) && not (b == byte "$"))
 
 -- a dollar quote's tag is made of these but `$`
 abbrev pub tag_cont : ℕ → Bool
-tag_cont b = ident_cont b && not (b == 36)
+tag_cont b = ident_cont b && not (b == byte "$")
 
 -- one of two bytes, and any other byte
 abbrev pub one_of : ℕ → ℕ → ℕ → Bool

@@ -1,7 +1,7 @@
 -- What the cursor finds in the bytes that follow its place.
-use Rattle.std.specs.Prelude.{◌≡◌, ℕ, ◌+◌, Bool, true, false, if◌then◌else◌, ◌&&◌, ◌||◌, List, [], ◌∷◌, drop, ◌==◌, slice_index}
+use Rattle.std.specs.Prelude.{◌≡◌, ℕ, ◌+◌, ◌-◌, ◌<◌, Bool, true, false, if◌then◌else◌, ◌&&◌, ◌||◌, List, [], ◌∷◌, drop, ◌==◌, slice_index}
+use Rattle.lexer.specs.Byte.{byte}
 use Rattle.lexer.specs.Class.{ident_cont, ident_start}
-use Rattle.lexer.specs.declared.cursor.Cursor.{Cursor}
 
 -- the byte n places on, or 0 past the end
 abbrev pub peek : ℕ → List ℕ → ℕ
@@ -34,20 +34,44 @@ identifier xs = if leads ident_start xs then run ident_cont xs else 0
 -- the digits at the front, with each underscore that a digit follows
 unfoldable pub digits : (ℕ → Bool) → List ℕ → ℕ
 digits digit [] = 0
-digits digit (x ∷ xs) = if digit x || (x == 95 && leads digit xs) then 1 + digits digit xs else 0
+digits digit (x ∷ xs) =
+    if digit x || (x == byte "_" && leads digit xs) then 1 + digits digit xs
+    else 0
 
 -- whether there is a digit among them
 unfoldable pub digit_met : (ℕ → Bool) → List ℕ → Bool
 digit_met digit [] = false
-digit_met digit (x ∷ xs) = if digit x then true else (if x == 95 && leads digit xs then digit_met digit xs else false)
+digit_met digit (x ∷ xs) =
+    if digit x then true
+    else if x == byte "_" && leads digit xs then digit_met digit xs
+    else false
 
-module _ {T : Type 0} (bytes : T → List ℕ) where
-  -- the bytes from the cursor's place on
-  abbrev pub rest : Cursor T → List ℕ
-  rest c = drop c.place (bytes c.text.now)
+-- a cursor, as callers see it: the bytes of its text, its place, and how many bytes of the token it has eaten
+pub record Spot : Type 0 where
+  pub text : List ℕ
+  pub place : ℕ
+  pub eaten : ℕ
 
--- the cursor moved on by n bytes, in the same token of the same text
-pub record Moved {T : Type 0} (c d : Cursor T) (n : ℕ) : Type 0 where
+-- a cursor at a place where a token begins
+abbrev pub opened : List ℕ → ℕ → Spot
+opened bytes place = record { text = bytes; place = place; eaten = 0 }
+
+-- the bytes from its place on
+abbrev pub rest : Spot → List ℕ
+rest c = drop c.place c.text
+
+-- it has eaten the first byte of a token, and that is the given one
+pub record Begun (first : ℕ) (c : Spot) : Type 0 where
+  pub one : c.eaten ≡ 1
+  pub some : 0 < c.place
+  pub byte : slice_index c.text (c.place - 1) ≡ first
+
+-- it moved on by n bytes, in the same token of the same text
+pub record Moved (c d : Spot) (n : ℕ) : Type 0 where
   pub text : d.text ≡ c.text
-  pub start : d.start ≡ c.start
   pub place : d.place ≡ c.place + n
+  pub eaten : d.eaten ≡ c.eaten + n
+
+-- it moved over what `f` tells of the bytes that follow
+abbrev pub Eats : (List ℕ → ℕ) → Spot → Spot → Type 0
+Eats f c d = Moved c d (f (rest c))

@@ -1,6 +1,7 @@
 -- What starts with a dollar sign: dollar-quoted strings and parameters. From `opens_dollar` on, the bytes are those that
 -- follow the first `$`.
 use Rattle.std.specs.Prelude.{ℕ, ◌+◌, Bool, true, false, if◌then◌else◌, ◌&&◌, ◌||◌, List, [], ◌∷◌, length, take, drop, ◌==◌}
+use Rattle.lexer.specs.Byte.{byte}
 use Rattle.lexer.specs.Class.{decimal, ident_start, tag_cont}
 use Rattle.lexer.specs.Cursor.{identifier, leads, peek, run}
 use Rattle.lexer.specs.declared.token.LiteralKind.TheVariants.{DollarQuotedString}
@@ -16,16 +17,20 @@ begins (d ∷ ds) (x ∷ xs) = d == x && begins ds xs
 -- the bytes up to and with the first whole delimiter, or all there are
 unfoldable pub delimited : List ℕ → List ℕ → ℕ
 delimited delimiter [] = 0
-delimited delimiter (x ∷ xs) = if begins delimiter (x ∷ xs) then length delimiter else 1 + delimited delimiter xs
+delimited delimiter (x ∷ xs) =
+    if begins delimiter (x ∷ xs) then length delimiter
+    else 1 + delimited delimiter xs
 
 -- whether there is one
 unfoldable pub delimited_closed : List ℕ → List ℕ → Bool
 delimited_closed delimiter [] = false
-delimited_closed delimiter (x ∷ xs) = if begins delimiter (x ∷ xs) then true else delimited_closed delimiter xs
+delimited_closed delimiter (x ∷ xs) =
+    if begins delimiter (x ∷ xs) then true
+    else delimited_closed delimiter xs
 
 -- whether a tag and a `$` follow: the tag is empty or an identifier without `$`
 abbrev pub opens_dollar : List ℕ → Bool
-opens_dollar xs = peek 0 xs == 36 || (leads ident_start xs && peek (run tag_cont xs) xs == 36)
+opens_dollar xs = peek 0 xs == byte "$" || (leads ident_start xs && peek (run tag_cont xs) xs == byte "$")
 
 -- the bytes of the tag and of the `$` after it
 abbrev pub dollar_opener : List ℕ → ℕ
@@ -33,7 +38,7 @@ dollar_opener xs = run tag_cont xs + 1
 
 -- the delimiter: the tag between two `$`
 abbrev pub dollar_delimiter : List ℕ → List ℕ
-dollar_delimiter xs = 36 ∷ take (dollar_opener xs) xs
+dollar_delimiter xs = byte "$" ∷ take (dollar_opener xs) xs
 
 -- the string is what follows the opening delimiter up to and with the first delimiter
 abbrev pub dollar_quoted : List ℕ → ℕ
@@ -50,4 +55,6 @@ abbrev pub dollar_len : List ℕ → ℕ
 dollar_len xs = if opens_dollar xs then dollar_quoted xs else parameter xs
 
 abbrev pub dollar_kind : List ℕ → TokenKind
-dollar_kind xs = if opens_dollar xs then Literal (DollarQuotedString (dollar_closed xs)) else PositionalParam (1 + run decimal xs)
+dollar_kind xs =
+    if opens_dollar xs then Literal (DollarQuotedString (dollar_closed xs))
+    else PositionalParam (1 + run decimal xs)

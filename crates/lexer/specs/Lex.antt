@@ -1,5 +1,6 @@
 -- Whole tokens: what starts with a byte, and the list of bytes that follow it.
 use Rattle.std.specs.Prelude.{ℕ, ◌+◌, Bool, true, false, if◌then◌else◌, ◌&&◌, List, [], ◌∷◌, length, drop, Some, None, Option, ◌==◌, nat_lt}
+use Rattle.lexer.specs.Byte.{byte}
 use Rattle.lexer.specs.Class.{all_but, ident_cont, whitespace}
 use Rattle.lexer.specs.Comment.{comment, comment_closed}
 use Rattle.lexer.specs.Cursor.{peek, run}
@@ -21,17 +22,17 @@ abbrev pub kind_of : Start → ℕ → List ℕ → TokenKind
 kind_of Blanks first xs = Whitespace
 kind_of Line first xs = LineComment
 kind_of Block first xs = BlockComment (comment_closed 1 (drop 1 xs))
-kind_of (Prefixed prefix) first xs = Literal (prefix_literal prefix (quoted_closed 39 (has_escapes prefix) (drop 1 xs)))
-kind_of UnicodeStr first xs = Literal (prefix_literal UnicodeEsc (quoted_closed 39 false (drop 2 xs)))
-kind_of UnicodeIdent first xs = QuotedIdent (quoted_closed 34 false (drop 2 xs)) true
+kind_of (Prefixed prefix) first xs = Literal (prefix_literal prefix (quoted_closed (byte "'") (has_escapes prefix) (drop 1 xs)))
+kind_of UnicodeStr first xs = Literal (prefix_literal UnicodeEsc (quoted_closed (byte "'") false (drop 2 xs)))
+kind_of UnicodeIdent first xs = QuotedIdent (quoted_closed (byte "\"") false (drop 2 xs)) true
 kind_of Word first xs = Ident
 kind_of Digit first xs = Literal (number first 1 xs)
 kind_of Point first xs = Literal (fractional 1 xs)
 kind_of TwoDots first xs = DotDot
 kind_of Dollar first xs = dollar_kind xs
 kind_of Command first xs = psql_kind xs
-kind_of Quote first xs = Literal (Str (quoted_closed 39 false xs))
-kind_of DoubleQuote first xs = QuotedIdent (quoted_closed 34 false xs) false
+kind_of Quote first xs = Literal (Str (quoted_closed (byte "'") false xs))
+kind_of DoubleQuote first xs = QuotedIdent (quoted_closed (byte "\"") false xs) false
 kind_of (Symbol kind) first xs = kind
 
 -- how many bytes of it follow the first
@@ -39,17 +40,17 @@ abbrev pub rest_len : Start → ℕ → List ℕ → ℕ
 rest_len Blanks first xs = run whitespace xs
 rest_len Line first xs = 1 + run (all_but 10 13) (drop 1 xs)
 rest_len Block first xs = 1 + comment 1 (drop 1 xs)
-rest_len (Prefixed prefix) first xs = 1 + quoted 39 (has_escapes prefix) (drop 1 xs)
-rest_len UnicodeStr first xs = 2 + quoted 39 false (drop 2 xs)
-rest_len UnicodeIdent first xs = 2 + quoted 34 false (drop 2 xs)
+rest_len (Prefixed prefix) first xs = 1 + quoted (byte "'") (has_escapes prefix) (drop 1 xs)
+rest_len UnicodeStr first xs = 2 + quoted (byte "'") false (drop 2 xs)
+rest_len UnicodeIdent first xs = 2 + quoted (byte "\"") false (drop 2 xs)
 rest_len Word first xs = run ident_cont xs
 rest_len Digit first xs = number_len first xs
 rest_len Point first xs = fractional_len xs
 rest_len TwoDots first xs = 1
 rest_len Dollar first xs = dollar_len xs
 rest_len Command first xs = psql_len xs
-rest_len Quote first xs = quoted 39 false xs
-rest_len DoubleQuote first xs = quoted 34 false xs
+rest_len Quote first xs = quoted (byte "'") false xs
+rest_len DoubleQuote first xs = quoted (byte "\"") false xs
 rest_len (Symbol kind) first xs = 0
 
 -- how a token starts whose first byte is given, and those that follow it
@@ -73,4 +74,4 @@ marked xs = peek 0 xs == 239 && (peek 1 xs == 187 && peek 2 xs == 191)
 abbrev pub token_at : List ℕ → ℕ → Option Token
 token_at xs place =
     if place == 0 && marked xs then Some record { kind = Whitespace; len = 3 }
-    else (if nat_lt place (length xs) then Some (token_from (drop place xs)) else None)
+    else if nat_lt place (length xs) then Some (token_from (drop place xs)) else None

@@ -1,3 +1,4 @@
+pub mod Byte
 pub mod AllLaws
 pub mod Class
 pub mod Comment

@@ -1,6 +1,7 @@
 -- Numbers: what follows the first character of one, which is a digit or, before a digit, a point.
 -- `at` is how many bytes of the token stand before the list.
 use Rattle.std.specs.Prelude.{ℕ, ◌+◌, Bool, false, if◌then◌else◌, not, ◌&&◌, ◌||◌, List, drop, Some, None, Option, ◌==◌}
+use Rattle.lexer.specs.Byte.{byte}
 use Rattle.lexer.specs.Class.{decimal, hexadecimal}
 use Rattle.lexer.specs.Cursor.{digit_met, digits, identifier, peek}
 use Rattle.lexer.specs.declared.token.Base.{Base}
@@ -14,10 +15,10 @@ either_case lower b = b == lower || b + 32 == lower
 
 -- `e` or `E` starts an exponent
 abbrev pub exponent_mark : ℕ → Bool
-exponent_mark b = either_case 101 b
+exponent_mark b = either_case (byte "e") b
 
 abbrev pub sign : ℕ → Bool
-sign b = b == 43 || b == 45
+sign b = b == byte "+" || b == byte "-"
 
 -- after the mark: whether a digit follows directly, or after one sign
 abbrev pub exponent_digits : List ℕ → Bool
@@ -25,7 +26,9 @@ exponent_digits xs = if sign (peek 0 xs) then decimal (peek 1 xs) else decimal (
 
 -- after the mark: the sign and the digits; a sign is taken only before a digit
 abbrev pub exponent_tail : List ℕ → ℕ
-exponent_tail xs = if exponent_digits xs then (if sign (peek 0 xs) then 1 + digits decimal (drop 1 xs) else digits decimal xs) else 0
+exponent_tail xs =
+    if exponent_digits xs then (if sign (peek 0 xs) then 1 + digits decimal (drop 1 xs) else digits decimal xs)
+    else 0
 
 -- the exponent, with its mark, if there is one
 unfoldable pub exponent : List ℕ → ℕ
@@ -33,7 +36,9 @@ exponent xs = if exponent_mark (peek 0 xs) then 1 + exponent_tail (drop 1 xs) el
 
 -- where an exponent without digits begins
 unfoldable pub empty_exponent : ℕ → List ℕ → Option ℕ
-empty_exponent at xs = if exponent_mark (peek 0 xs) then (if exponent_digits (drop 1 xs) then None else Some at) else None
+empty_exponent at xs =
+    if exponent_mark (peek 0 xs) then (if exponent_digits (drop 1 xs) then None else Some at)
+    else None
 
 -- after the point, or before an exponent: what is left of a number that has either
 unfoldable pub numeric : ℕ → List ℕ → LiteralKind
@@ -54,14 +59,20 @@ fractional_len xs = fraction xs + numeric_len (drop (fraction xs) xs)
 
 -- a point that no second point follows belongs to the number
 abbrev pub has_point : List ℕ → Bool
-has_point xs = peek 0 xs == 46 && not (peek 1 xs == 46)
+has_point xs = peek 0 xs == byte "." && not (peek 1 xs == byte ".")
 
 -- after the digits before the point
 abbrev pub after_digits : ℕ → List ℕ → LiteralKind
-after_digits at xs = if has_point xs then fractional (at + 1) (drop 1 xs) else (if exponent_mark (peek 0 xs) then numeric at xs else Int Decimal false at)
+after_digits at xs =
+    if has_point xs then fractional (at + 1) (drop 1 xs)
+    else if exponent_mark (peek 0 xs) then numeric at xs
+    else Int Decimal false at
 
 abbrev pub after_digits_len : List ℕ → ℕ
-after_digits_len xs = if has_point xs then 1 + fractional_len (drop 1 xs) else (if exponent_mark (peek 0 xs) then numeric_len xs else identifier xs)
+after_digits_len xs =
+    if has_point xs then 1 + fractional_len (drop 1 xs)
+    else if exponent_mark (peek 0 xs) then numeric_len xs
+    else identifier xs
 
 -- after the first digit of a decimal number
 unfoldable pub decimal_number : ℕ → List ℕ → LiteralKind
@@ -79,7 +90,9 @@ based_len digit xs = digits digit xs + identifier (drop (digits digit xs) xs)
 
 -- the base that a prefix names: after a `0`, by the letter that follows
 abbrev pub base_of : ℕ → ℕ → Base
-base_of first next = if first == 48 then (if either_case 98 next then Binary else (if either_case 111 next then Octal else (if either_case 120 next then Hexadecimal else Decimal))) else Decimal
+base_of first next =
+    if first == byte "0" then (if either_case (byte "b") next then Binary else if either_case (byte "o") next then Octal else if either_case (byte "x") next then Hexadecimal else Decimal)
+    else Decimal
 
 -- after the first digit of a number in a base; binary and octal numbers take decimal digits
 abbrev pub in_base : Base → ℕ → List ℕ → LiteralKind

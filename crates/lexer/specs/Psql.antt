@@ -1,18 +1,22 @@
 -- psql commands: the word after the backslash, what it does, and how far the command reaches.
-use Rattle.std.specs.Prelude.{ℕ, ◌+◌, Bool, true, false, if◌then◌else◌, ◌&&◌, ◌||◌, List, [], ◌∷◌, take, drop, codes, ◌==◌}
+use Rattle.std.specs.Prelude.{None, ℕ, ◌+◌, Bool, true, false, if◌then◌else◌, ◌&&◌, ◌||◌, List, [], ◌∷◌, take, drop, codes, ◌==◌}
+use Rattle.lexer.specs.Byte.{byte}
 use Rattle.lexer.specs.Class.{all_but, command_letter, line_blank}
 use Rattle.lexer.specs.Cursor.{peek, run}
 use Rattle.lexer.specs.PsqlArg.{arguments, options}
 use Rattle.lexer.specs.declared.psql.Command.{Command}
+use Rattle.lexer.specs.declared.psql.LetterCase.{LetterCase}
+use Rattle.lexer.specs.declared.psql.LetterCase.TheVariants.{Any, Exact}
 use Rattle.lexer.specs.declared.psql_arg.ArgState.TheVariants.{Outside}
 use Rattle.lexer.specs.declared.token.TokenKind.{TokenKind}
 use Rattle.lexer.specs.declared.token.TokenKind.TheVariants.{Colon, PsqlCommand, Semi}
+use Rattle.std.proofs.Common.{Bor}
 use Rattle.std.specs.Char.{to_ascii_lowercase}
 
 -- a letter in any case counts as the small one, or as it is
-abbrev pub fold : Bool → ℕ → ℕ
-fold true b = to_ascii_lowercase b
-fold false b = b
+abbrev pub fold : LetterCase → ℕ → ℕ
+fold Exact b = b
+fold Any b = to_ascii_lowercase b
 
 -- whether the second list, each byte folded, is the first
 abbrev pub spelt : (ℕ → ℕ) → List ℕ → List ℕ → Bool
@@ -21,59 +25,72 @@ spelt f [] (y ∷ ys) = false
 spelt f (x ∷ xs) [] = false
 spelt f (x ∷ xs) (y ∷ ys) = x == f y && spelt f xs ys
 
--- whether it is one of the words
-abbrev pub listed : (ℕ → ℕ) → List (List ℕ) → List ℕ → Bool
-listed f [] ys = false
-listed f (word ∷ words) ys = spelt f word ys || listed f words ys
+-- what a word may do: nothing; end the query; end it with a pipe, and options in parentheses before it; take a pipe; read
+-- the whole line
+abbrev pub nothing : Command
+nothing = record { ends_query = false; takes_pipe = false; takes_options = false; reads_line = false }
 
--- the words that end a query
-abbrev pub ending_words : List (List ℕ)
-ending_words =
-    codes "g"
-    ∷ codes "gx"
-    ∷ codes "gdesc"
-    ∷ codes "gexec"
-    ∷ codes "gset"
-    ∷ codes "getresults"
-    ∷ codes "crosstabview"
-    ∷ codes "watch"
-    ∷ codes "parse"
-    ∷ codes "close_prepared"
-    ∷ codes "sendpipeline"
-    ∷ codes "startpipeline"
-    ∷ codes "syncpipeline"
-    ∷ codes "endpipeline"
-    ∷ codes "flush"
-    ∷ codes "flushrequest"
-    ∷ codes "r"
-    ∷ codes "reset"
+abbrev pub ends_query : Command
+ends_query = record { ends_query = true; takes_pipe = false; takes_options = false; reads_line = false }
+
+abbrev pub sends_query : Command
+sends_query = record { ends_query = true; takes_pipe = true; takes_options = true; reads_line = false }
+
+abbrev pub takes_pipe : Command
+takes_pipe = record { ends_query = false; takes_pipe = true; takes_options = false; reads_line = false }
+
+abbrev pub reads_line : Command
+reads_line = record { ends_query = false; takes_pipe = false; takes_options = false; reads_line = true }
+
+-- the words that do something
+abbrev pub words : List (List ℕ × LetterCase × Command)
+words =
+    (codes "g", Exact, sends_query)
+    ∷ (codes "gx", Exact, sends_query)
+    ∷ (codes "gdesc", Exact, ends_query)
+    ∷ (codes "gexec", Exact, ends_query)
+    ∷ (codes "gset", Exact, ends_query)
+    ∷ (codes "getresults", Exact, ends_query)
+    ∷ (codes "crosstabview", Exact, ends_query)
+    ∷ (codes "watch", Exact, ends_query)
+    ∷ (codes "parse", Exact, ends_query)
+    ∷ (codes "close_prepared", Exact, ends_query)
+    ∷ (codes "sendpipeline", Exact, ends_query)
+    ∷ (codes "startpipeline", Exact, ends_query)
+    ∷ (codes "syncpipeline", Exact, ends_query)
+    ∷ (codes "endpipeline", Exact, ends_query)
+    ∷ (codes "flush", Exact, ends_query)
+    ∷ (codes "flushrequest", Exact, ends_query)
+    ∷ (codes "r", Exact, ends_query)
+    ∷ (codes "reset", Exact, ends_query)
+    ∷ (codes "o", Exact, takes_pipe)
+    ∷ (codes "out", Exact, takes_pipe)
+    ∷ (codes "w", Exact, takes_pipe)
+    ∷ (codes "write", Exact, takes_pipe)
+    ∷ (codes "!", Exact, reads_line)
+    ∷ (codes "ef", Exact, reads_line)
+    ∷ (codes "ev", Exact, reads_line)
+    ∷ (codes "sf", Exact, reads_line)
+    ∷ (codes "sf+", Exact, reads_line)
+    ∷ (codes "sv", Exact, reads_line)
+    ∷ (codes "sv+", Exact, reads_line)
+    ∷ (codes "h", Exact, reads_line)
+    ∷ (codes "help", Exact, reads_line)
+    ∷ (codes "copy", Any, reads_line)
     ∷ []
 
--- the words that take a pipe
-abbrev pub pipe_words : List (List ℕ)
-pipe_words = codes "g" ∷ codes "gx" ∷ codes "o" ∷ codes "out" ∷ codes "w" ∷ codes "write" ∷ []
+-- a row as the program has it
+abbrev pub row : Bor (List ℕ) × LetterCase × Command → List ℕ × LetterCase × Command
+row r = (r.0.now, r.1, r.2)
 
--- those of them that take options in parentheses before it
-abbrev pub option_words : List (List ℕ)
-option_words = codes "g" ∷ codes "gx" ∷ []
-
--- the words that read the whole line, and those that do so in any letter case
-abbrev pub line_words : List (List ℕ)
-line_words =
-    codes "!" ∷ codes "ef" ∷ codes "ev" ∷ codes "sf" ∷ codes "sf+" ∷ codes "sv" ∷ codes "sv+" ∷ codes "h" ∷ codes "help" ∷ []
-
-abbrev pub any_case_line_words : List (List ℕ)
-any_case_line_words = codes "copy" ∷ []
+-- what a word does by a list of words
+abbrev pub found : List (List ℕ × LetterCase × Command) → List ℕ → Command
+found [] w = nothing
+found (row ∷ rows) w = if spelt (fold row.1) row.0 w then row.2 else found rows w
 
 -- what a word does
 unfoldable pub meaning : List ℕ → Command
-meaning w =
-    record {
-      ends_query = listed (fold false) ending_words w;
-      takes_pipe = listed (fold false) pipe_words w;
-      takes_options = listed (fold false) option_words w;
-      reads_line = listed (fold false) line_words w || listed (fold true) any_case_line_words w;
-    }
+meaning w = found words w
 
 -- the bytes of one thing, and those of another that follows it
 abbrev pub followed : (List ℕ → ℕ) → (List ℕ → ℕ) → List ℕ → ℕ
@@ -81,15 +98,21 @@ followed f g xs = f xs + g (drop (f xs) xs)
 
 -- the options of `\g`, if a parenthesis opens them
 abbrev pub opened_options : Command → List ℕ → ℕ
-opened_options command xs = if command.takes_options && peek 0 xs == 40 then options Outside 0 xs else 0
+opened_options command xs =
+    if command.takes_options && peek 0 xs == byte "(" then options Outside None xs
+    else 0
 
 -- before a pipe is looked for: the blanks, and the options
 abbrev pub before_pipe : Command → List ℕ → ℕ
-before_pipe command xs = if command.takes_pipe then followed (run line_blank) (opened_options command) xs else 0
+before_pipe command xs =
+    if command.takes_pipe then followed (run line_blank) (opened_options command) xs
+    else 0
 
 -- the rest of the line for a word that reads it, or from a pipe on; else arguments
 abbrev pub what_follows : Command → List ℕ → ℕ
-what_follows command xs = if command.reads_line || (command.takes_pipe && peek 0 xs == 124) then run (all_but 10 13) xs else arguments Outside xs
+what_follows command xs =
+    if command.reads_line || (command.takes_pipe && peek 0 xs == byte "|") then run (all_but 10 13) xs
+    else arguments Outside xs
 
 -- the word at the front: the longest run of command letters
 abbrev pub command_word : List ℕ → List ℕ
@@ -104,10 +127,11 @@ command_len xs = followed (run command_letter) (followed (before_pipe (command x
 -- after the backslash: `\`, `;` and `:` stand alone, and else a command follows
 abbrev pub psql_kind : List ℕ → TokenKind
 psql_kind xs =
-    if peek 0 xs == 92 then PsqlCommand false
-    else (if peek 0 xs == 59 then Semi
-    else (if peek 0 xs == 58 then Colon
-    else PsqlCommand (command xs).ends_query))
+    if peek 0 xs == byte "\\" then PsqlCommand false
+    else if peek 0 xs == byte ";" then Semi
+    else if peek 0 xs == byte ":" then Colon
+    else PsqlCommand (command xs).ends_query
 
 abbrev pub psql_len : List ℕ → ℕ
-psql_len xs = if peek 0 xs == 92 || (peek 0 xs == 59 || peek 0 xs == 58) then 1 else command_len xs
+psql_len xs =
+    if peek 0 xs == byte "\\" || (peek 0 xs == byte ";" || peek 0 xs == byte ":") then 1 else command_len xs

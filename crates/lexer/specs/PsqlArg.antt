@@ -1,5 +1,7 @@
 -- The arguments of psql commands: how a reader of them goes from byte to byte, and where they end.
-use Rattle.std.specs.Prelude.{ℕ, ◌+◌, ◌-◌, ◌*◌, ◌%◌, Bool, true, false, if◌then◌else◌, ◌&&◌, ◌||◌, List, [], ◌∷◌, ◌==◌, nat_lt}
+use Rattle.std.specs.Prelude.{ℕ, ◌+◌, ◌-◌, ◌*◌, ◌%◌, Bool, true, false, if◌then◌else◌, ◌&&◌, ◌||◌, List, [], ◌∷◌, ◌==◌, nat_lt, Option, Some, None}
+use Rattle.lexer.specs.Byte.{byte}
+use Rattle.std.specs.Option.{option_map}
 use Rattle.lexer.specs.Class.{backslash, between, decimal, hexadecimal, line_blank, line_end}
 use Rattle.lexer.specs.Cursor.{run}
 use Rattle.lexer.specs.declared.psql_arg.ArgState.{ArgState}
@@ -7,11 +9,14 @@ use Rattle.lexer.specs.declared.psql_arg.ArgState.TheVariants.{Outside, Closing,
 
 -- 0 to 7
 abbrev pub octal : ℕ → Bool
-octal b = between 48 55 b
+octal b = between (byte "0") (byte "7") b
 
 -- what a hexadecimal digit counts
 abbrev pub hex_value : ℕ → ℕ
-hex_value b = if decimal b then b - 48 else (if nat_lt b 97 then b - 55 else b - 87)
+hex_value b =
+    if decimal b then b - byte "0"
+    else if nat_lt b (byte "a") then b - byte "A" + 10
+    else b - byte "a" + 10
 
 -- outside all quotes; a single quote that closes may still turn out to be the first of two that stand for one
 abbrev pub outside : ArgState → Bool
@@ -36,15 +41,19 @@ separates state b = outside state && line_blank b
 
 -- outside quotes: each of the three quotes opens its own
 abbrev pub after_outside : ℕ → ArgState
-after_outside b = if b == 39 then Quoted else (if b == 34 then DoubleQuoted else (if b == 96 then Backquoted else Outside))
+after_outside b =
+    if b == byte "'" then Quoted
+    else if b == byte "\"" then DoubleQuoted
+    else if b == byte "`" then Backquoted
+    else Outside
 
 -- within single quotes: a quote closes, a backslash takes the next character
 abbrev pub after_quoted : ℕ → ArgState
-after_quoted b = if b == 39 then Closing else (if backslash b then Escape else Quoted)
+after_quoted b = if b == byte "'" then Closing else if backslash b then Escape else Quoted
 
 -- after that backslash: octal digits or an `x` with hexadecimal ones follow, or the character stands for itself
 abbrev pub after_escape : ℕ → ArgState
-after_escape b = if octal b then OneOctalDigit else (if b == 120 then HexMark else Quoted)
+after_escape b = if octal b then OneOctalDigit else if b == byte "x" then HexMark else Quoted
 
 -- the state after one more byte; an octal escape has up to three digits, a hexadecimal one up to two
 abbrev pub after : ArgState → ℕ → ArgState
@@ -56,28 +65,42 @@ after OneOctalDigit b = if octal b then TwoOctalDigits else after_quoted b
 after TwoOctalDigits b = if octal b then Quoted else after_quoted b
 after HexMark b = if hexadecimal b then OneHexDigit else after_quoted b
 after OneHexDigit b = if hexadecimal b then Quoted else after_quoted b
-after DoubleQuoted b = if b == 34 then Outside else DoubleQuoted
-after Backquoted b = if b == 96 then Outside else Backquoted
+after DoubleQuoted b = if b == byte "\"" then Outside else DoubleQuoted
+after Backquoted b = if b == byte "`" then Outside else Backquoted
 
 -- within single quotes a closing quote and a backslash stand for nothing yet
-abbrev pub last_quoted : ℕ → ℕ → ℕ
-last_quoted last b = if b == 39 then last else (if backslash b then last else b)
+abbrev pub last_quoted : Option ℕ → ℕ → Option ℕ
+last_quoted last b = if b == byte "'" then last else if backslash b then last else Some b
 
--- the last character of the argument's value after one more byte, 0 for none: digits of an escape count as the character
+-- a character so far, with one more digit in a base
+abbrev pub with_digit : Option ℕ → ℕ → ℕ → Option ℕ
+with_digit last base digit = option_map (λ so_far. (so_far * base + digit) % 256) last
+
+-- the last character of the argument's value after one more byte: digits of an escape count as the character
 -- that they stand for so far, other escapes as their letter (a control character is no parenthesis either), two single
 -- quotes as one, an opening or closing single quote as nothing, a double quote as itself, and a command in backticks
 -- leaves none
-abbrev pub last_after : ArgState → ℕ → ℕ → ℕ
-last_after Outside last b = if b == 39 then last else b
-last_after Closing last b = b
+abbrev pub last_after : ArgState → Option ℕ → ℕ → Option ℕ
+last_after Outside last b = if b == byte "'" then last else Some b
+last_after Closing last b = Some b
 last_after Quoted last b = last_quoted last b
-last_after Escape last b = if octal b then b - 48 else b
-last_after OneOctalDigit last b = if octal b then (last * 8 + (b - 48)) % 256 else last_quoted last b
-last_after TwoOctalDigits last b = if octal b then (last * 8 + (b - 48)) % 256 else last_quoted last b
-last_after HexMark last b = if hexadecimal b then hex_value b else last_quoted last b
-last_after OneHexDigit last b = if hexadecimal b then (last * 16 + hex_value b) % 256 else last_quoted last b
-last_after DoubleQuoted last b = b
-last_after Backquoted last b = 0
+last_after Escape last b = if octal b then Some (b - byte "0") else Some b
+last_after OneOctalDigit last b =
+    if octal b then with_digit last 8 (b - byte "0")
+    else last_quoted last b
+last_after TwoOctalDigits last b =
+    if octal b then with_digit last 8 (b - byte "0")
+    else last_quoted last b
+last_after HexMark last b = if hexadecimal b then Some (hex_value b) else last_quoted last b
+last_after OneHexDigit last b =
+    if hexadecimal b then with_digit last 16 (hex_value b)
+    else last_quoted last b
+last_after DoubleQuoted last b = Some b
+last_after Backquoted last b = None
+
+abbrev pub is_parenthesis : Option ℕ → Bool
+is_parenthesis None = false
+is_parenthesis (Some b) = b == byte ")"
 
 -- the bytes of the arguments from a state on
 unfoldable pub arguments : ArgState → List ℕ → ℕ
@@ -85,6 +108,9 @@ arguments state [] = 0
 arguments state (x ∷ xs) = if stops state x then 0 else 1 + arguments (after state x) xs
 
 -- the bytes of the options of `\g (`: all arguments up to the first whose value ends with `)`, and the blanks after it
-unfoldable pub options : ArgState → ℕ → List ℕ → ℕ
+unfoldable pub options : ArgState → Option ℕ → List ℕ → ℕ
 options state last [] = 0
-options state last (x ∷ xs) = if stops state x then 0 else (if separates state x then (if last == 41 then run line_blank (x ∷ xs) else 1 + options Outside 0 xs) else 1 + options (after state x) (last_after state last x) xs)
+options state last (x ∷ xs) =
+    if stops state x then 0
+    else if separates state x then (if is_parenthesis last then run line_blank (x ∷ xs) else 1 + options Outside None xs)
+    else 1 + options (after state x) (last_after state last x) xs

@@ -1,5 +1,6 @@
 -- Where strings, quoted names and dollar-quoted strings end, in the words of SQL's lexical rules.
 use Rattle.std.specs.Prelude.{◌≡◌, ℕ, ◌+◌, ◌≤◌, Bool, true, false, if◌then◌else◌, List, [], ◌∷◌, ◌++◌, map, length, take, drop, Some, codes, ◌≢◌, nat_eq}
+use Rattle.lexer.specs.Byte.{byte}
 use Rattle.lexer.specs.Class.{between, ident_start, tag_cont}
 use Rattle.lexer.specs.Cursor.{leads}
 use Rattle.lexer.specs.Lex.{token_at}
@@ -11,22 +12,22 @@ use Rattle.lexer.specs.declared.token.TokenKind.{TokenKind}
 -- how a kind of token is quoted: its opener with letters in lower case, its quote, whether backslashes escape, and
 -- whether it is terminated
 pub data Quoting : TokenKind → List ℕ → ℕ → Bool → Bool → Type 0 where
-  string : (terminated : Bool) → Quoting (Literal (Str terminated)) (codes "'") 39 false terminated
-  escape_string : (terminated : Bool) → Quoting (Literal (EscStr terminated)) (codes "e'") 39 true terminated
-  bit_string : (terminated : Bool) → Quoting (Literal (BitStr terminated)) (codes "b'") 39 false terminated
-  byte_string : (terminated : Bool) → Quoting (Literal (ByteStr terminated)) (codes "x'") 39 false terminated
-  national_string : (terminated : Bool) → Quoting (Literal (NationalStr terminated)) (codes "n'") 39 false terminated
-  unicode_string : (terminated : Bool) → Quoting (Literal (UnicodeEscStr terminated)) (codes "u&'") 39 false terminated
-  name : (terminated : Bool) → Quoting (QuotedIdent terminated false) (codes "\"") 34 false terminated
-  unicode_name : (terminated : Bool) → Quoting (QuotedIdent terminated true) (codes "u&\"") 34 false terminated
+  string : (terminated : Bool) → Quoting (Literal (Str terminated)) (codes "'") (byte "'") false terminated
+  escape_string : (terminated : Bool) → Quoting (Literal (EscStr terminated)) (codes "e'") (byte "'") true terminated
+  bit_string : (terminated : Bool) → Quoting (Literal (BitStr terminated)) (codes "b'") (byte "'") false terminated
+  byte_string : (terminated : Bool) → Quoting (Literal (ByteStr terminated)) (codes "x'") (byte "'") false terminated
+  national_string : (terminated : Bool) → Quoting (Literal (NationalStr terminated)) (codes "n'") (byte "'") false terminated
+  unicode_string : (terminated : Bool) → Quoting (Literal (UnicodeEscStr terminated)) (codes "u&'") (byte "'") false terminated
+  name : (terminated : Bool) → Quoting (QuotedIdent terminated false) (codes "\"") (byte "\"") false terminated
+  unicode_name : (terminated : Bool) → Quoting (QuotedIdent terminated true) (codes "u&\"") (byte "\"") false terminated
 
 -- what may stand between the quotes: a quote only if doubled, and where backslashes escape, a backslash only with the
 -- byte that it takes
 pub data Body (quote : ℕ) (escapes : Bool) : List ℕ → Type 0 where
   empty : Body quote escapes []
-  plain : (b : ℕ) (xs : List ℕ) → (b ≢ quote) → (escapes ≡ true → b ≢ 92) → Body quote escapes xs → Body quote escapes (b ∷ xs)
+  plain : (b : ℕ) (xs : List ℕ) → (b ≢ quote) → (escapes ≡ true → b ≢ byte "\\") → Body quote escapes xs → Body quote escapes (b ∷ xs)
   doubled : (xs : List ℕ) → Body quote escapes xs → Body quote escapes (quote ∷ quote ∷ xs)
-  escaped : (b : ℕ) (xs : List ℕ) → escapes ≡ true → Body quote escapes xs → Body quote escapes (92 ∷ b ∷ xs)
+  escaped : (b : ℕ) (xs : List ℕ) → escapes ≡ true → Body quote escapes xs → Body quote escapes (byte "\\" ∷ b ∷ xs)
 
 -- bytes split into a body, the quote that closes it, and a rest that does not begin with a quote
 pub record Closes (quote : ℕ) (escapes : Bool) (xs body rest : List ℕ) : Type 0 where
@@ -36,7 +37,7 @@ pub record Closes (quote : ℕ) (escapes : Bool) (xs body rest : List ℕ) : Typ
 
 -- a letter in lower case, and any other byte as it is
 abbrev pub lower : ℕ → ℕ
-lower b = if between 65 90 b then b + 32 else b
+lower b = if between (byte "A") (byte "Z") b then b + 32 else b
 
 -- a quoted token begins with its opener, in letters of either case
 abbrev pub QuotedOpens : Type 0
@@ -75,7 +76,7 @@ Tag (x ∷ xs) = (ident_start x ≡ true) × TagRest xs
 
 -- a tag's delimiter: the tag between two `$`
 abbrev pub delimiter : List ℕ → List ℕ
-delimiter tag = 36 ∷ (tag ++ (36 ∷ []))
+delimiter tag = byte "$" ∷ (tag ++ (codes "$"))
 
 -- a terminated dollar-quoted string is a delimiter, a body and the delimiter again: the first one after the opening one
 abbrev pub DollarCloses : Type 0

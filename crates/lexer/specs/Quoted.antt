@@ -11,13 +11,19 @@ use Rattle.lexer.specs.declared.token.LiteralKind.{LiteralKind}
 unfoldable pub quoted : ℕ → Bool → List ℕ → ℕ
 quoted quote escapes [] = 0
 quoted quote escapes (x ∷ []) = 1
-quoted quote escapes (x ∷ y ∷ xs) = if x == quote then (if y == quote then 2 + quoted quote escapes xs else 1) else (if escapes && backslash x then 2 + quoted quote escapes xs else 1 + quoted quote escapes (y ∷ xs))
+quoted quote escapes (x ∷ y ∷ xs) =
+    if x == quote then (if y == quote then 2 + quoted quote escapes xs else 1)
+    else if escapes && backslash x then 2 + quoted quote escapes xs
+    else 1 + quoted quote escapes (y ∷ xs)
 
 -- whether there is a closing quote
 unfoldable pub quoted_closed : ℕ → Bool → List ℕ → Bool
 quoted_closed quote escapes [] = false
 quoted_closed quote escapes (x ∷ []) = x == quote
-quoted_closed quote escapes (x ∷ y ∷ xs) = if x == quote then (if y == quote then quoted_closed quote escapes xs else true) else (if escapes && backslash x then quoted_closed quote escapes xs else quoted_closed quote escapes (y ∷ xs))
+quoted_closed quote escapes (x ∷ y ∷ xs) =
+    if x == quote then (if y == quote then quoted_closed quote escapes xs else true)
+    else if escapes && backslash x then quoted_closed quote escapes xs
+    else quoted_closed quote escapes (y ∷ xs)
 
 -- only an escape string has escapes
 abbrev pub has_escapes : Prefix → Bool

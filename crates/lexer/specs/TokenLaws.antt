@@ -1,5 +1,6 @@
 -- What PostgreSQL's chapter "Lexical Structure" says of tokens: comments, identifiers, whitespace, parameters and numbers.
-use Rattle.std.specs.Prelude.{◌≡◌, ℕ, ◌+◌, ◌<◌, ◌≤◌, Bool, true, false, if◌then◌else◌, ◌&&◌, ◌||◌, ◌⊎◌, List, [], ◌∷◌, ◌++◌, length, take, drop, Some, None, Option, ◌==◌}
+use Rattle.std.specs.Prelude.{codes, ◌≡◌, ℕ, ◌+◌, ◌<◌, ◌≤◌, Bool, true, false, if◌then◌else◌, ◌&&◌, ◌||◌, ◌⊎◌, List, [], ◌∷◌, ◌++◌, length, take, drop, Some, None, Option, ◌==◌}
+use Rattle.lexer.specs.Byte.{byte}
 use Rattle.lexer.specs.Class.{all_but, decimal, hexadecimal, ident_cont, ident_start, whitespace}
 use Rattle.lexer.specs.Comment.{closes, opens}
 use Rattle.lexer.specs.Cursor.{leads, peek}
@@ -19,16 +20,22 @@ Always P = (bs : List ℕ) (place : ℕ) (t : Token) → token_at bs place ≡ S
 unfoldable pub openers : List ℕ → ℕ
 openers [] = 0
 openers (a ∷ []) = 0
-openers (a ∷ b ∷ xs) = if opens a b then 1 + openers xs else (if closes a b then openers xs else openers (b ∷ xs))
+openers (a ∷ b ∷ xs) =
+    if opens a b then 1 + openers xs
+    else if closes a b then openers xs
+    else openers (b ∷ xs)
 
 unfoldable pub closers : List ℕ → ℕ
 closers [] = 0
 closers (a ∷ []) = 0
-closers (a ∷ b ∷ xs) = if opens a b then closers xs else (if closes a b then 1 + closers xs else closers (b ∷ xs))
+closers (a ∷ b ∷ xs) =
+    if opens a b then closers xs
+    else if closes a b then 1 + closers xs
+    else closers (b ∷ xs)
 
 -- a closed block comment begins with `/*` and has as many `*/`; each shorter front with that first mark has fewer
 pub record Closed (token : List ℕ) : Type 0 where
-  pub begins : take 2 token ≡ 47 ∷ 42 ∷ []
+  pub begins : take 2 token ≡ codes "/*"
   pub even : closers token ≡ openers token
   pub before : (n : ℕ) → 1 < n → n < length token → closers (take n token) < openers (take n token)
 
@@ -37,7 +44,7 @@ ClosedComments = Always (λ t token next. t.kind ≡ BlockComment true → Close
 
 -- one that is not closed runs to the end of the text, and all its fronts with the first mark have fewer
 pub record Unclosed (token next : List ℕ) : Type 0 where
-  pub begins : take 2 token ≡ 47 ∷ 42 ∷ []
+  pub begins : take 2 token ≡ codes "/*"
   pub to_end : next ≡ []
   pub before : (n : ℕ) → 1 < n → closers (take n token) < openers (take n token)
 
@@ -56,7 +63,7 @@ pub record Longest (class : ℕ → Bool) (bytes next : List ℕ) : Type 0 where
 
 -- a line comment is `--` and all that follows it before a line feed, a carriage return or the end of the text
 abbrev pub LineComments : Type 0
-LineComments = Always (λ t token next. t.kind ≡ LineComment → (take 2 token ≡ 45 ∷ 45 ∷ []) × Longest (all_but 10 13) token next)
+LineComments = Always (λ t token next. t.kind ≡ LineComment → (take 2 token ≡ codes "--") × Longest (all_but 10 13) token next)
 
 -- a name or key word without quotes: a byte that starts one, and all bytes that go on with it
 pub record Name (bytes next : List ℕ) : Type 0 where
@@ -94,7 +101,7 @@ JunkOfNumerics = Always (λ t token next. (empty : Option ℕ) (offset : ℕ) �
 
 -- a parameter is `$`, all decimal digits that follow it, and junk
 pub record Parameter (offset : ℕ) (token next : List ℕ) : Type 0 where
-  pub begins : take 1 token ≡ 36 ∷ []
+  pub begins : take 1 token ≡ codes "$"
   pub number : Longest decimal (drop 1 (take offset token)) (drop offset token ++ next)
   pub after : JunkFrom offset token next
 
@@ -105,20 +112,20 @@ Parameters = Always (λ t token next. (offset : ℕ) → t.kind ≡ PositionalPa
 unfoldable pub grouped : (ℕ → Bool) → List ℕ → Bool
 grouped digit [] = false
 grouped digit (x ∷ []) = digit x
-grouped digit (x ∷ y ∷ xs) = digit x && (grouped digit (y ∷ xs) || (y == 95 && grouped digit xs))
+grouped digit (x ∷ y ∷ xs) = digit x && (grouped digit (y ∷ xs) || (y == byte "_" && grouped digit xs))
 
 -- `0`, a letter in either case, an underscore or none, and digits
 pub data Based (letter : ℕ) (digit : ℕ → Bool) : List ℕ → Type 0 where
-  direct : (mark : ℕ) (ds : List ℕ) → either_case letter mark ≡ true → grouped digit ds ≡ true → Based letter digit (48 ∷ mark ∷ ds)
-  underscored : (mark : ℕ) (ds : List ℕ) → either_case letter mark ≡ true → grouped digit ds ≡ true → Based letter digit (48 ∷ mark ∷ 95 ∷ ds)
+  direct : (mark : ℕ) (ds : List ℕ) → either_case letter mark ≡ true → grouped digit ds ≡ true → Based letter digit (byte "0" ∷ mark ∷ ds)
+  underscored : (mark : ℕ) (ds : List ℕ) → either_case letter mark ≡ true → grouped digit ds ≡ true → Based letter digit (byte "0" ∷ mark ∷ byte "_" ∷ ds)
 
 -- a whole number is decimal digits, or has a prefix: `0x` and hexadecimal digits, or `0b` or `0o` and decimal digits, since
 -- a digit too high for its base is no end of the number
 abbrev pub Whole : Base → List ℕ → Type 0
-Whole Binary xs = Based 98 decimal xs
-Whole Octal xs = Based 111 decimal xs
+Whole Binary xs = Based (byte "b") decimal xs
+Whole Octal xs = Based (byte "o") decimal xs
 Whole Decimal xs = grouped decimal xs ≡ true
-Whole Hexadecimal xs = Based 120 hexadecimal xs
+Whole Hexadecimal xs = Based (byte "x") hexadecimal xs
 
 -- an exponent is `e`, a sign or none, and digits
 pub data Exponent : List ℕ → Type 0 where
@@ -130,9 +137,9 @@ ExponentOrNone xs = Exponent xs ⊎ (xs ≡ [])
 
 -- a number with a point or an exponent: `4.`, `3.5` and `.001`, each with an exponent or none, and `5e2`
 pub data Fractional : List ℕ → Type 0 where
-  point_last : (ds es : List ℕ) → grouped decimal ds ≡ true → ExponentOrNone es → Fractional (ds ++ 46 ∷ es)
-  point_within : (ds fs es : List ℕ) → grouped decimal ds ≡ true → grouped decimal fs ≡ true → ExponentOrNone es → Fractional (ds ++ 46 ∷ (fs ++ es))
-  point_first : (fs es : List ℕ) → grouped decimal fs ≡ true → ExponentOrNone es → Fractional (46 ∷ (fs ++ es))
+  point_last : (ds es : List ℕ) → grouped decimal ds ≡ true → ExponentOrNone es → Fractional (ds ++ byte "." ∷ es)
+  point_within : (ds fs es : List ℕ) → grouped decimal ds ≡ true → grouped decimal fs ≡ true → ExponentOrNone es → Fractional (ds ++ byte "." ∷ (fs ++ es))
+  point_first : (fs es : List ℕ) → grouped decimal fs ≡ true → ExponentOrNone es → Fractional (byte "." ∷ (fs ++ es))
   no_point : (ds es : List ℕ) → grouped decimal ds ≡ true → Exponent es → Fractional (ds ++ es)
 
 -- a number without junk, not empty and without an empty exponent, is of one of these forms
@@ -155,7 +162,7 @@ WholeRead =
 -- and one with a point or an exponent before what stops it and is no point
 abbrev pub FractionalRead : Type 0
 FractionalRead =
-    (bs : List ℕ) (place : ℕ) (xs next : List ℕ) → drop place bs ≡ xs ++ next → Fractional xs → Stops next → (peek 0 next == 46) ≡ false
+    (bs : List ℕ) (place : ℕ) (xs next : List ℕ) → drop place bs ≡ xs ++ next → Fractional xs → Stops next → (peek 0 next == byte ".") ≡ false
     → token_at bs place ≡ Some record { kind = Literal (Numeric None (length xs)); len = length xs }
 
 -- all of these

@@ -1,7 +1,7 @@
 //! One token after another.
 
 ghost use Rattle.std.specs.Prelude.{◌≡◌, ◌+◌, ◌<◌, ◌≤◌, false, length, IfSome, MatchOption, slice_index};
-ghost use Rattle.lexer.specs.Cursor.{Moved, rest};
+ghost use Rattle.lexer.specs.Cursor.{Begun, Eats, rest};
 ghost use Rattle.lexer.specs.AllLaws.{AllLaws};
 ghost use Rattle.lexer.specs.Lex.{kind_of, marked, rest_len, start_with, token_at, token_from};
 ghost use Rattle.lexer.specs.Token.{is_eof};
@@ -15,8 +15,8 @@ use text::Text;
 impl<'a, T: Text> Cursor<'a, T> {
     /// The token that begins where the cursor stands; at the end, `Eof` of no bytes.
     fn advance_token(&mut self) -> Token
-        requires { self.old.place ≡ self.old.start }
-        ensures { result ≡ token_from (rest T.bytes self.old) }
+        requires { self.old.eaten ≡ 0 }
+        ensures { result ≡ token_from (rest self.old) }
     {
         let Some(first_char) = self.bump() else {
             return Token {
@@ -34,11 +34,10 @@ impl<'a, T: Text> Cursor<'a, T> {
 
     /// Goes on after the first character of a token that starts so.
     fn finish(&mut self, start: Start, first_char: char) -> TokenKind
-        requires begun { start ≡ start_with first_char (rest T.bytes self.old) }
-        requires one { self.old.place ≡ self.old.start + 1 }
-        requires first { slice_index (T.bytes self.old.text.now) self.old.start ≡ first_char }
-        ensures kind { result ≡ kind_of start first_char (rest T.bytes self.old) }
-        ensures moved { Moved self.old self.new (rest_len start first_char (rest T.bytes self.old)) }
+        requires begun { start ≡ start_with first_char (rest self.old) }
+        requires first { Begun first_char self.old }
+        ensures kind { result ≡ kind_of start first_char (rest self.old) }
+        ensures moved { Eats (rest_len start first_char) self.old self.new }
     {
         match start {
             Start::Blanks => self.whitespace(),

@@ -3,9 +3,9 @@
 ghost use Rattle.std.specs.Prelude.{◌≡◌, ◌+◌, drop};
 ghost use Rattle.lexer.specs.Class.{all_but};
 ghost use Rattle.lexer.specs.Comment.{comment, comment_closed};
-ghost use Rattle.lexer.specs.Cursor.{Moved, rest, run};
+ghost use Rattle.lexer.specs.Cursor.{Eats, rest, run};
 
-use crate::cursor::{Cursor, byte_at};
+use crate::cursor::{Cursor, Reach, byte_at};
 use crate::token::TokenKind;
 use text::Text;
 
@@ -13,7 +13,7 @@ impl<'a, T: Text> Cursor<'a, T> {
     /// Goes on after `--`: the comment runs to the end of its line.
     pub(crate) fn line_comment(&mut self) -> TokenKind
         ensures kind { result ≡ TokenKind.LineComment }
-        ensures moved { Moved self.old self.new (run (all_but 10 13) (rest T.bytes self.old)) }
+        ensures moved { Eats (run (all_but 10 13)) self.old self.new }
     {
         self.eat_until2(b'\n', b'\r');
         TokenKind::LineComment
@@ -21,20 +21,19 @@ impl<'a, T: Text> Cursor<'a, T> {
 
     /// Goes on after `/*`.
     pub(crate) fn block_comment(&mut self) -> TokenKind
-        ensures kind { result ≡ TokenKind.BlockComment (comment_closed 1 (rest T.bytes self.old)) }
-        ensures moved { Moved self.old self.new (comment 1 (rest T.bytes self.old)) }
+        ensures kind { result ≡ TokenKind.BlockComment (comment_closed 1 (rest self.old)) }
+        ensures moved { Eats (comment 1) self.old self.new }
     {
-        let (end, terminated) = comment_end(self.text(), self.place());
-        self.move_to(end);
+        let terminated = self.pass(comment_end(self.text(), self.place()));
         TokenKind::BlockComment { terminated }
     }
 }
 
 /// Where the comment ends whose opening mark ends at the place: after as many `*/` as `/*`, or with the text. And whether
 /// it is closed.
-fn comment_end<T: Text>(text: &T, place: u32) -> (u32, bool)
-    ensures end { result.0 ≡ place + comment 1 (drop place (T.bytes text.now)) }
-    ensures closed { result.1 ≡ comment_closed 1 (drop place (T.bytes text.now)) }
+fn comment_end<T: Text>(text: &T, place: u32) -> Reach
+    ensures end { result.end ≡ place + comment 1 (drop place (T.bytes text.now)) }
+    ensures closed { result.closed ≡ comment_closed 1 (drop place (T.bytes text.now)) }
 {
     let mut depth: usize = 1;
     let mut end = place;
@@ -53,5 +52,8 @@ fn comment_end<T: Text>(text: &T, place: u32) -> (u32, bool)
             end += 1;
         }
     }
-    (end, depth == 0)
+    Reach {
+        end,
+        closed: depth == 0,
+    }
 }

@@ -2,11 +2,12 @@
 
 ghost use Rattle.std.specs.Prelude.{◌≡◌, ℕ, ◌+◌, ◌-◌, ◌<◌, ◌≤◌, ◌&&◌, length, drop, ◌==◌, slice_index};
 ghost use Rattle.lexer.specs.Class.{all_but, ident_cont, whitespace};
-ghost use Rattle.lexer.specs.Cursor.{Moved, at_end, digit_met, digits, identifier, leads, next_len, peek, rest, run};
+ghost use Rattle.lexer.specs.Cursor.{Eats, Moved, at_end, digit_met, digits, identifier, leads, next_len, opened, peek, rest, run};
 ghost use Rattle.std.specs.List.{slice_get};
 
 use crate::class::{AllBut, Class, DigitClass, IdentCont, IdentStart, Whitespace};
 use crate::token::TokenKind;
+use std::marker::Model;
 use text::Text;
 
 /// A place in a text, and where the token that is being read began.
@@ -17,13 +18,31 @@ pub(crate) struct Cursor<'a, T: Text> {
     place: u32,
 }
 
+/// Where something ends that is closed by a mark of its own, or by the end of the text; and which of the two it is.
+#[derive(Clone, Copy)]
+pub(crate) struct Reach {
+    pub(crate) end: u32,
+    pub(crate) closed: bool,
+}
+
 /// What stands for a character past the end. A text may hold it too: `is_eof` tells the two apart.
 pub(crate) const EOF_CHAR: char = '\0';
+
+impl<'a, T: Text> Model for Cursor<'a, T> {
+    ghost use Rattle.std.specs.Prelude.{◌-◌, ◌≤◌};
+    ghost use Rattle.lexer.specs.Cursor.{Spot};
+
+    ghost Value = { Spot };
+
+    ghost view = { λ c. record { text = T.bytes c.text.now; place = c.place; eaten = c.place - c.start } };
+
+    ghost invariant = { λ c. c.start ≤ c.place };
+}
 
 impl<'a, T: Text> Cursor<'a, T> {
     /// A cursor at a place, where a token begins.
     pub(crate) fn new(text: &'a T, place: u32) -> Cursor<'a, T>
-        ensures { (result.text ≡ text.entry) × (result.start ≡ place) × (result.place ≡ place) }
+        ensures { result ≡ opened (T.bytes text.now) place }
     {
         Cursor {
             text,
@@ -34,20 +53,20 @@ impl<'a, T: Text> Cursor<'a, T> {
 
     /// The next character, which stays where it is.
     pub(crate) fn first(&self) -> char
-        ensures { result ≡ peek 0 (rest T.bytes self.now) }
+        ensures { result ≡ peek 0 (rest self.now) }
     {
         self.peek_char(0)
     }
 
     /// The character after the next.
     pub(crate) fn second(&self) -> char
-        ensures { result ≡ peek 1 (rest T.bytes self.now) }
+        ensures { result ≡ peek 1 (rest self.now) }
     {
         self.peek_char(1)
     }
 
     fn peek_char(&self, ahead: u32) -> char
-        ensures { result ≡ peek ahead (rest T.bytes self.now) }
+        ensures { result ≡ peek ahead (rest self.now) }
     {
         match self.byte_ahead(ahead) {
             Some(byte) => char::from(byte),
@@ -56,7 +75,7 @@ impl<'a, T: Text> Cursor<'a, T> {
     }
 
     fn byte_ahead(&self, ahead: u32) -> Option<u8>
-        ensures { result ≡ slice_get (rest T.bytes self.now) ahead }
+        ensures { result ≡ slice_get (rest self.now) ahead }
     {
         let place = self.place.checked_add(ahead)?;
         self.text.byte(place)
@@ -64,9 +83,9 @@ impl<'a, T: Text> Cursor<'a, T> {
 
     /// Whether the next character belongs to the class.
     pub(crate) fn next_in<C: Class>(&self, class: &C) -> bool
-        ensures { result ≡ leads (C.holds class.now) (rest T.bytes self.now) }
+        ensures { result ≡ leads (C.holds class.now) (rest self.now) }
     {
-        match self.text.byte(self.place) {
+        match self.byte_ahead(0) {
             Some(byte) => class.has(byte),
             None => false,
         }
@@ -74,35 +93,42 @@ impl<'a, T: Text> Cursor<'a, T> {
 
     /// The character after the longest run of characters of the class.
     pub(crate) fn char_after_run<C: Class>(&self, class: &C) -> char
-        ensures { result ≡ peek (run (C.holds class.now) (rest T.bytes self.now)) (rest T.bytes self.now) }
+        ensures { result ≡ peek (run (C.holds class.now) (rest self.now)) (rest self.now) }
     {
-        match self.text.byte(self.run_end(class)) {
-            Some(byte) => char::from(byte),
-            None => EOF_CHAR,
-        }
+        let end = run_end(self.text(), self.place(), class);
+        self.peek_char(end - self.place())
     }
 
     /// Whether nothing follows.
     pub(crate) fn is_eof(&self) -> bool
-        ensures { result ≡ at_end (rest T.bytes self.now) }
+        ensures { result ≡ at_end (rest self.now) }
     {
-        self.text.byte(self.place).is_none()
+        self.byte_ahead(0).is_none()
     }
 
     /// The text that it reads.
     pub(crate) fn text(&self) -> &'a T
-        ensures { result ≡ self.now.text }
+        ensures { T.bytes result.now ≡ self.now.text }
     {
         self.text
     }
 
     /// Goes on to a place.
     pub(crate) fn move_to(&mut self, place: u32)
-        ensures text { self.new.text ≡ self.old.text }
-        ensures start { self.new.start ≡ self.old.start }
-        ensures place { self.new.place ≡ place }
+        requires { self.old.place ≤ place }
+        ensures { Moved self.old self.new (place - self.old.place) }
     {
         self.place = place;
+    }
+
+    /// Goes on to where something ends, and says whether it is closed.
+    pub(crate) fn pass(&mut self, reach: Reach) -> bool
+        requires { self.old.place ≤ reach.end }
+        ensures closed { result ≡ reach.closed }
+        ensures moved { Moved self.old self.new (reach.end - self.old.place) }
+    {
+        self.move_to(reach.end);
+        reach.closed
     }
 
     /// Where the cursor stands in the text.
@@ -114,16 +140,15 @@ impl<'a, T: Text> Cursor<'a, T> {
 
     /// How many bytes of the token have been eaten.
     pub(crate) fn pos_within_token(&self) -> u32
-        requires { self.now.start ≤ self.now.place }
-        ensures { result ≡ self.now.place - self.now.start }
+        ensures { result ≡ self.now.eaten }
     {
         self.place - self.start
     }
 
     /// Eats the next character. One beyond ASCII is eaten byte by byte.
     pub(crate) fn bump(&mut self) -> Option<char>
-        ensures value { result ≡ slice_get (rest T.bytes self.old) 0 }
-        ensures moved { Moved self.old self.new (next_len (rest T.bytes self.old)) }
+        ensures value { result ≡ slice_get (rest self.old) 0 }
+        ensures moved { Eats next_len self.old self.new }
     {
         let byte = self.text.byte(self.place)?;
         self.place += 1;
@@ -132,35 +157,22 @@ impl<'a, T: Text> Cursor<'a, T> {
 
     /// Eats characters as long as they belong to the class.
     pub(crate) fn eat_while<C: Class>(&mut self, class: &C)
-        ensures { Moved self.old self.new (run (C.holds class.now) (rest T.bytes self.old)) }
+        ensures { Eats (run (C.holds class.now)) self.old self.new }
     {
-        self.place = self.run_end(class);
-    }
-
-    /// Where the longest run of characters of the class ends.
-    fn run_end<C: Class>(&self, class: &C) -> u32
-        ensures { result ≡ self.now.place + run (C.holds class.now) (rest T.bytes self.now) }
-    {
-        let mut place = self.place;
-        while let Some(byte) = self.text.byte(place) {
-            if !class.has(byte) {
-                break;
-            }
-            place += 1;
-        }
-        place
+        let end = run_end(self.text(), self.place(), class);
+        self.move_to(end);
     }
 
     /// Eats up to the first of the byte, or to the end.
     pub(crate) fn eat_until(&mut self, byte: u8)
-        ensures { Moved self.old self.new (run (all_but byte byte) (rest T.bytes self.old)) }
+        ensures { Eats (run (all_but byte byte)) self.old self.new }
     {
         self.eat_until2(byte, byte);
     }
 
     /// Eats up to the first of either byte, or to the end.
     pub(crate) fn eat_until2(&mut self, first: u8, second: u8)
-        ensures { Moved self.old self.new (run (all_but first second) (rest T.bytes self.old)) }
+        ensures { Eats (run (all_but first second)) self.old self.new }
     {
         self.eat_while(&AllBut(first, second));
     }
@@ -168,7 +180,7 @@ impl<'a, T: Text> Cursor<'a, T> {
     /// Goes on after the first character of an identifier.
     pub(crate) fn ident(&mut self) -> TokenKind
         ensures kind { result ≡ TokenKind.Ident }
-        ensures moved { Moved self.old self.new (run ident_cont (rest T.bytes self.old)) }
+        ensures moved { Eats (run ident_cont) self.old self.new }
     {
         self.eat_while(&IdentCont);
         TokenKind::Ident
@@ -177,7 +189,7 @@ impl<'a, T: Text> Cursor<'a, T> {
     /// Goes on after the first character of whitespace.
     pub(crate) fn whitespace(&mut self) -> TokenKind
         ensures kind { result ≡ TokenKind.Whitespace }
-        ensures moved { Moved self.old self.new (run whitespace (rest T.bytes self.old)) }
+        ensures moved { Eats (run whitespace) self.old self.new }
     {
         self.eat_while(&Whitespace);
         TokenKind::Whitespace
@@ -185,7 +197,7 @@ impl<'a, T: Text> Cursor<'a, T> {
 
     /// Eats what follows of a junk identifier: a starting character and those that go on with it, or nothing.
     pub(crate) fn eat_identifier(&mut self)
-        ensures { Moved self.old self.new (identifier (rest T.bytes self.old)) }
+        ensures { Eats identifier self.old self.new }
     {
         if self.next_in(&IdentStart) {
             self.eat_while(&IdentCont);
@@ -194,32 +206,48 @@ impl<'a, T: Text> Cursor<'a, T> {
 
     /// Eats the digits that follow, and says whether there are any.
     pub(crate) fn eat_digits<C: DigitClass>(&mut self) -> bool
-        ensures met { result ≡ digit_met C.digit (rest T.bytes self.old) }
-        ensures moved { Moved self.old self.new (digits C.digit (rest T.bytes self.old)) }
+        ensures met { result ≡ digit_met C.digit (rest self.old) }
+        ensures moved { Eats (digits C.digit) self.old self.new }
     {
-        let (end, has_digits) = self.digit_run::<C>();
-        self.place = end;
+        let (end, has_digits) = digit_run::<C, T>(self.text(), self.place());
+        self.move_to(end);
         has_digits
     }
+}
 
-    /// Where the run of digits that follows ends, and whether a digit was met. An underscore belongs to the run
-    /// only if a digit follows it.
-    fn digit_run<C: DigitClass>(&self) -> (u32, bool)
-        ensures end { result.0 ≡ self.now.place + digits C.digit (rest T.bytes self.now) }
-        ensures met { result.1 ≡ digit_met C.digit (rest T.bytes self.now) }
-    {
-        let mut place = self.place;
-        let mut met = false;
-        while let Some(byte) = self.text.byte(place) {
-            if C::has_digit(byte) {
-                met = true;
-            } else if !is_joint::<C, T>(self.text, place, byte) {
-                break;
-            }
-            place += 1;
+/// Where the longest run of characters of the class ends that begins at the place.
+#[tactic(auto, using(crate::proofs::Turns::turns))]
+pub(crate) fn run_end<C: Class, T: Text>(text: &T, place: u32, class: &C) -> u32
+    ensures { result ≡ place + run (C.holds class.now) (drop place (T.bytes text.now)) }
+{
+    let mut end = place;
+    while let Some(byte) = text.byte(end) {
+        if !class.has(byte) {
+            break;
         }
-        (place, met)
+        end += 1;
     }
+    end
+}
+
+/// Where the run of digits ends that begins at the place, and whether a digit was met. An underscore belongs to the run
+/// only if a digit follows it.
+#[tactic(auto, using(crate::proofs::Turns::turns))]
+fn digit_run<C: DigitClass, T: Text>(text: &T, place: u32) -> (u32, bool)
+    ensures end { result.0 ≡ place + digits C.digit (drop place (T.bytes text.now)) }
+    ensures met { result.1 ≡ digit_met C.digit (drop place (T.bytes text.now)) }
+{
+    let mut end = place;
+    let mut met = false;
+    while let Some(byte) = text.byte(end) {
+        if C::has_digit(byte) {
+            met = true;
+        } else if !is_joint::<C, T>(text, end, byte) {
+            break;
+        }
+        end += 1;
+    }
+    (end, met)
 }
 
 /// The byte at a place, or 0 past the end.

@@ -2,21 +2,20 @@
 
 ghost use Rattle.std.specs.Prelude.{◌≡◌, ◌+◌, ◌-◌, ◌<◌, ◌≤◌, true, length, take, drop, slice_index};
 ghost use Rattle.lexer.specs.Class.{decimal};
-ghost use Rattle.lexer.specs.Cursor.{Moved, rest, run};
+ghost use Rattle.lexer.specs.Cursor.{Begun, Eats, rest, run};
 ghost use Rattle.lexer.specs.Dollar.{begins, delimited, delimited_closed, dollar_closed, dollar_kind, dollar_len, dollar_quoted, opens_dollar, parameter};
 
 use crate::class::{DecimalDigit, IdentStart, TagCont};
-use crate::cursor::{Cursor, byte_at};
+use crate::cursor::{Cursor, Reach, byte_at};
 use crate::token::{LiteralKind, TokenKind};
 use text::Text;
 
 impl<'a, T: Text> Cursor<'a, T> {
     /// Goes on after a `$`, the token's first character.
     pub(crate) fn dollar(&mut self) -> TokenKind
-        requires first { self.old.place ≡ self.old.start + 1 }
-        requires sign { slice_index (T.bytes self.old.text.now) self.old.start ≡ 36 }
-        ensures kind { result ≡ dollar_kind (rest T.bytes self.old) }
-        ensures moved { Moved self.old self.new (dollar_len (rest T.bytes self.old)) }
+        requires sign { Begun 36 self.old }
+        ensures kind { result ≡ dollar_kind (rest self.old) }
+        ensures moved { Eats dollar_len self.old self.new }
     {
         if self.is_dollar_quote_start() {
             let terminated = self.dollar_quoted_string();
@@ -30,7 +29,7 @@ impl<'a, T: Text> Cursor<'a, T> {
 
     /// Whether a tag and a `$` follow: the tag is empty or an identifier without `$`.
     fn is_dollar_quote_start(&self) -> bool
-        ensures { result ≡ opens_dollar (rest T.bytes self.now) }
+        ensures { result ≡ opens_dollar (rest self.now) }
     {
         if self.first() == '$' {
             return true;
@@ -41,25 +40,21 @@ impl<'a, T: Text> Cursor<'a, T> {
     /// Eats the rest of the opening delimiter and all up to and with the first whole delimiter after it. Says whether
     /// there is one.
     fn dollar_quoted_string(&mut self) -> bool
-        requires first { self.old.place ≡ self.old.start + 1 }
-        requires sign { slice_index (T.bytes self.old.text.now) self.old.start ≡ 36 }
-        requires opens { opens_dollar (rest T.bytes self.old) ≡ true }
-        ensures closed { result ≡ dollar_closed (rest T.bytes self.old) }
-        ensures moved { Moved self.old self.new (dollar_quoted (rest T.bytes self.old)) }
+        requires sign { Begun 36 self.old }
+        requires opens { opens_dollar (rest self.old) ≡ true }
+        ensures closed { result ≡ dollar_closed (rest self.old) }
+        ensures moved { Eats dollar_quoted self.old self.new }
     {
         let opener = self.place() - 1;
         self.eat_while(&TagCont);
         self.bump();
-        let (end, terminated) = dollar_end(self.text(), opener, self.place() - opener);
-        self.move_to(end);
-        terminated
+        self.pass(dollar_end(self.text(), opener, self.place() - opener))
     }
 
     /// The digits of a parameter, and its junk.
     fn positional_param(&mut self) -> TokenKind
-        requires { self.old.start ≤ self.old.place }
-        ensures kind { result ≡ TokenKind.PositionalParam (self.old.place - self.old.start + run decimal (rest T.bytes self.old)) }
-        ensures moved { Moved self.old self.new (parameter (rest T.bytes self.old)) }
+        ensures kind { result ≡ TokenKind.PositionalParam (self.old.eaten + run decimal (rest self.old)) }
+        ensures moved { Eats parameter self.old self.new }
     {
         self.eat_while(&DecimalDigit);
         let trailing_junk_start = self.pos_within_token();
@@ -73,20 +68,24 @@ impl<'a, T: Text> Cursor<'a, T> {
 /// Where the string ends whose opening delimiter stands at a place: after the first delimiter beyond it, or with the text.
 /// And whether it is closed. A tag holds no `$`, so a comparison at a place that turns out wrong stops before the
 /// next `$`: all of them together go over the text twice at most.
-fn dollar_end<T: Text>(text: &T, opener: u32, len: u32) -> (u32, bool)
+fn dollar_end<T: Text>(text: &T, opener: u32, len: u32) -> Reach
     requires some { 0 < len }
     requires within { opener + len ≤ length (T.bytes text.now) }
-    ensures end { result.0 ≡ opener + len + delimited (take len (drop opener (T.bytes text.now))) (drop (opener + len) (T.bytes text.now)) }
-    ensures closed { result.1 ≡ delimited_closed (take len (drop opener (T.bytes text.now))) (drop (opener + len) (T.bytes text.now)) }
+    ensures end { result.end ≡ opener + len + delimited (take len (drop opener (T.bytes text.now))) (drop (opener + len) (T.bytes text.now)) }
+    ensures closed { result.closed ≡ delimited_closed (take len (drop opener (T.bytes text.now))) (drop (opener + len) (T.bytes text.now)) }
 {
-    let mut end = opener + len;
-    while end < text.len() {
+    for end in opener + len..text.len() {
         if repeats(text, opener, len, end) {
-            return (end + len, true);
+            return Reach {
+                end: end + len,
+                closed: true,
+            };
         }
-        end += 1;
     }
-    (end, false)
+    Reach {
+        end: text.len(),
+        closed: false,
+    }
 }
 
 /// Whether the bytes at a place repeat those of a range before it.

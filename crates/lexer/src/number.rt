@@ -1,7 +1,8 @@
 //! Numbers. Offsets count from the token's start.
 
 ghost use Rattle.std.specs.Prelude.{◌≡◌, ◌+◌, ◌-◌, ◌≤◌, not, ◌&&◌, ◌==◌};
-ghost use Rattle.lexer.specs.Cursor.{Moved, rest};
+ghost use Rattle.lexer.specs.Byte.{byte};
+ghost use Rattle.lexer.specs.Cursor.{Eats, rest};
 ghost use Rattle.lexer.specs.Number.{after_digits, after_digits_len, base_of, based, based_len, decimal_len, decimal_number, empty_exponent, exponent, exponent_digits, exponent_mark, exponent_tail, fractional, fractional_len, number, number_len, numeric, numeric_len, sign};
 ghost use Rattle.lexer.specs.Class.{decimal};
 
@@ -13,9 +14,8 @@ use text::Text;
 impl<'a, T: Text> Cursor<'a, T> {
     /// Goes on after the first digit of a number.
     pub(crate) fn number(&mut self, first_digit: char) -> LiteralKind
-        requires { self.old.start ≤ self.old.place }
-        ensures kind { result ≡ number first_digit (self.old.place - self.old.start) (rest T.bytes self.old) }
-        ensures moved { Moved self.old self.new (number_len first_digit (rest T.bytes self.old)) }
+        ensures kind { result ≡ number first_digit self.old.eaten (rest self.old) }
+        ensures moved { Eats (number_len first_digit) self.old self.new }
     {
         match base_of(first_digit, self.first()) {
             Base::Binary => {
@@ -36,9 +36,8 @@ impl<'a, T: Text> Cursor<'a, T> {
 
     /// Goes on after the prefix of a base: the digits and the junk.
     fn based_int<C: DigitClass>(&mut self, base: Base) -> LiteralKind
-        requires { self.old.start ≤ self.old.place }
-        ensures kind { result ≡ based base C.digit (self.old.place - self.old.start) (rest T.bytes self.old) }
-        ensures moved { Moved self.old self.new (based_len C.digit (rest T.bytes self.old)) }
+        ensures kind { result ≡ based base C.digit self.old.eaten (rest self.old) }
+        ensures moved { Eats (based_len C.digit) self.old self.new }
     {
         let has_digits = self.eat_digits::<C>();
         let trailing_junk_start = self.pos_within_token();
@@ -53,9 +52,8 @@ impl<'a, T: Text> Cursor<'a, T> {
 
     /// The digits after the first, and what follows them.
     fn decimal_number(&mut self) -> LiteralKind
-        requires { self.old.start ≤ self.old.place }
-        ensures kind { result ≡ decimal_number (self.old.place - self.old.start) (rest T.bytes self.old) }
-        ensures moved { Moved self.old self.new (decimal_len (rest T.bytes self.old)) }
+        ensures kind { result ≡ decimal_number self.old.eaten (rest self.old) }
+        ensures moved { Eats decimal_len self.old self.new }
     {
         self.eat_digits::<DecimalDigit>();
         self.after_digits()
@@ -63,9 +61,8 @@ impl<'a, T: Text> Cursor<'a, T> {
 
     /// What follows the digits before a point: the point and the rest, an exponent, or junk.
     fn after_digits(&mut self) -> LiteralKind
-        requires { self.old.start ≤ self.old.place }
-        ensures kind { result ≡ after_digits (self.old.place - self.old.start) (rest T.bytes self.old) }
-        ensures moved { Moved self.old self.new (after_digits_len (rest T.bytes self.old)) }
+        ensures kind { result ≡ after_digits self.old.eaten (rest self.old) }
+        ensures moved { Eats after_digits_len self.old self.new }
     {
         if is_point(self.first(), self.second()) {
             self.bump();
@@ -85,9 +82,8 @@ impl<'a, T: Text> Cursor<'a, T> {
 
     /// Goes on after the point of a number.
     pub(crate) fn eat_fractional(&mut self) -> LiteralKind
-        requires { self.old.start ≤ self.old.place }
-        ensures kind { result ≡ fractional (self.old.place - self.old.start) (rest T.bytes self.old) }
-        ensures moved { Moved self.old self.new (fractional_len (rest T.bytes self.old)) }
+        ensures kind { result ≡ fractional self.old.eaten (rest self.old) }
+        ensures moved { Eats fractional_len self.old self.new }
     {
         if is_digit(self.first()) {
             self.eat_digits::<DecimalDigit>();
@@ -97,9 +93,8 @@ impl<'a, T: Text> Cursor<'a, T> {
 
     /// The exponent, if there is one, and the junk of a number that has a point or an exponent.
     fn eat_numeric(&mut self) -> LiteralKind
-        requires { self.old.start ≤ self.old.place }
-        ensures kind { result ≡ numeric (self.old.place - self.old.start) (rest T.bytes self.old) }
-        ensures moved { Moved self.old self.new (numeric_len (rest T.bytes self.old)) }
+        ensures kind { result ≡ numeric self.old.eaten (rest self.old) }
+        ensures moved { Eats numeric_len self.old self.new }
     {
         let empty_exponent_start = self.eat_exponent();
         let trailing_junk_start = self.pos_within_token();
@@ -112,9 +107,8 @@ impl<'a, T: Text> Cursor<'a, T> {
 
     /// Eats an exponent, if there is one, and says where it begins if it has no digits.
     fn eat_exponent(&mut self) -> Option<u32>
-        requires { self.old.start ≤ self.old.place }
-        ensures value { result ≡ empty_exponent (self.old.place - self.old.start) (rest T.bytes self.old) }
-        ensures moved { Moved self.old self.new (exponent (rest T.bytes self.old)) }
+        ensures value { result ≡ empty_exponent self.old.eaten (rest self.old) }
+        ensures moved { Eats exponent self.old self.new }
     {
         if !is_exponent_mark(self.first()) {
             return None;
@@ -130,8 +124,8 @@ impl<'a, T: Text> Cursor<'a, T> {
 
     /// Goes on after the `e` of an exponent, and says whether there are digits. A sign is eaten only before one.
     fn eat_numeric_exponent(&mut self) -> bool
-        ensures digits { result ≡ exponent_digits (rest T.bytes self.old) }
-        ensures moved { Moved self.old self.new (exponent_tail (rest T.bytes self.old)) }
+        ensures digits { result ≡ exponent_digits (rest self.old) }
+        ensures moved { Eats exponent_tail self.old self.new }
     {
         if !self.exponent_has_digits() {
             return false;
@@ -144,7 +138,7 @@ impl<'a, T: Text> Cursor<'a, T> {
     }
 
     fn exponent_has_digits(&self) -> bool
-        ensures { result ≡ exponent_digits (rest T.bytes self.now) }
+        ensures { result ≡ exponent_digits (rest self.now) }
     {
         if is_sign(self.first()) {
             is_digit(self.second())
@@ -162,7 +156,7 @@ fn is_digit(c: char) -> bool
 
 /// Whether the first is a point of a number: `1..10` is 1, .. and 10.
 fn is_point(first: char, second: char) -> bool
-    ensures { result ≡ (first == 46 && not (second == 46)) }
+    ensures { result ≡ (first == byte "." && not (second == byte ".")) }
 {
     first == '.' && second != '.'
 }

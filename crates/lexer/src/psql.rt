@@ -1,8 +1,8 @@
 //! psql commands: the word after the backslash, and how far the command reaches.
 
 ghost use Rattle.std.specs.Prelude.{◌≡◌, ◌-◌, ◌≤◌, map, length, take, drop};
-ghost use Rattle.lexer.specs.Cursor.{Moved, rest};
-ghost use Rattle.lexer.specs.Psql.{before_pipe, command, command_len, fold, listed, meaning, opened_options, psql_kind, psql_len, spelt, what_follows};
+ghost use Rattle.lexer.specs.Cursor.{Eats, rest};
+ghost use Rattle.lexer.specs.Psql.{before_pipe, command, command_len, fold, found, meaning, opened_options, psql_kind, psql_len, row, spelt, what_follows};
 ghost use Rattle.lexer.specs.PsqlArg.{arguments};
 ghost use Rattle.lexer.specs.declared.psql_arg.ArgState.TheVariants.{Outside};
 
@@ -28,8 +28,8 @@ pub(crate) struct Command {
 impl<'a, T: Text> Cursor<'a, T> {
     /// Goes on after a backslash.
     pub(crate) fn psql_command(&mut self) -> TokenKind
-        ensures kind { result ≡ psql_kind (rest T.bytes self.old) }
-        ensures moved { Moved self.old self.new (psql_len (rest T.bytes self.old)) }
+        ensures kind { result ≡ psql_kind (rest self.old) }
+        ensures moved { Eats psql_len self.old self.new }
     {
         match self.first() {
             '\\' => {
@@ -50,8 +50,8 @@ impl<'a, T: Text> Cursor<'a, T> {
 
     /// Eats a command word and what belongs to it.
     fn psql_word(&mut self) -> TokenKind
-        ensures kind { result ≡ TokenKind.PsqlCommand (command (rest T.bytes self.old)).ends_query }
-        ensures moved { Moved self.old self.new (command_len (rest T.bytes self.old)) }
+        ensures kind { result ≡ TokenKind.PsqlCommand (command (rest self.old)).ends_query }
+        ensures moved { Eats command_len self.old self.new }
     {
         let place = self.place();
         self.eat_while(&CommandLetter);
@@ -65,7 +65,7 @@ impl<'a, T: Text> Cursor<'a, T> {
 
     /// Eats what stands before a pipe, where the word takes one: blanks, then options.
     fn eat_before_pipe(&mut self, command: Command)
-        ensures { Moved self.old self.new (before_pipe command (rest T.bytes self.old)) }
+        ensures { Eats (before_pipe command) self.old self.new }
     {
         if command.takes_pipe {
             self.eat_while(&LineBlank);
@@ -75,7 +75,7 @@ impl<'a, T: Text> Cursor<'a, T> {
 
     /// Eats the rest of the line, or the arguments, which end at a backslash outside quotes too.
     fn eat_what_follows(&mut self, command: Command)
-        ensures { Moved self.old self.new (what_follows command (rest T.bytes self.old)) }
+        ensures { Eats (what_follows command) self.old self.new }
     {
         if command.reads_line || command.takes_pipe && self.first() == '|' {
             self.eat_until2(b'\n', b'\r');
@@ -86,7 +86,7 @@ impl<'a, T: Text> Cursor<'a, T> {
 
     /// Eats options in parentheses, where the word takes them.
     fn eat_options(&mut self, command: Command)
-        ensures { Moved self.old self.new (opened_options command (rest T.bytes self.old)) }
+        ensures { Eats (opened_options command) self.old self.new }
     {
         if command.takes_options && self.first() == '(' {
             let end = options_end(self.text(), self.place());
@@ -96,101 +96,138 @@ impl<'a, T: Text> Cursor<'a, T> {
 
     /// Eats the arguments, with the blanks between them.
     fn eat_arguments(&mut self)
-        ensures { Moved self.old self.new (arguments Outside (rest T.bytes self.old)) }
+        ensures { Eats (arguments Outside) self.old self.new }
     {
         let end = arguments_end(self.text(), self.place());
         self.move_to(end);
     }
 }
 
-/// The words that end the query before them.
-const ENDS_QUERY: [&[u8]; 18] = [
-    b"g",
-    b"gx",
-    b"gdesc",
-    b"gexec",
-    b"gset",
-    b"getresults",
-    b"crosstabview",
-    b"watch",
-    b"parse",
-    b"close_prepared",
-    b"sendpipeline",
-    b"startpipeline",
-    b"syncpipeline",
-    b"endpipeline",
-    b"flush",
-    b"flushrequest",
-    b"r",
-    b"reset",
+/// What any word does that is not listed.
+const NOTHING: Command = Command {
+    ends_query: false,
+    takes_pipe: false,
+    takes_options: false,
+    reads_line: false,
+};
+
+const ENDS_QUERY: Command = Command {
+    ends_query: true,
+    ..NOTHING
+};
+
+/// Ends the query, and sends its result to where options in parentheses, or a pipe, say.
+const SENDS_QUERY: Command = Command {
+    ends_query: true,
+    takes_pipe: true,
+    takes_options: true,
+    ..NOTHING
+};
+
+const TAKES_PIPE: Command = Command {
+    takes_pipe: true,
+    ..NOTHING
+};
+
+const READS_LINE: Command = Command {
+    reads_line: true,
+    ..NOTHING
+};
+
+/// How the letters of a word are compared.
+#[derive(Clone, Copy)]
+enum LetterCase {
+    /// As they are.
+    Exact,
+    /// Capital and small letters alike.
+    Any,
+}
+
+/// The words that do something. `copy` is known whatever the case of its letters.
+#[rattlefmt::skip]
+const WORDS: [(&[u8], LetterCase, Command); 32] = [
+    (b"g", LetterCase::Exact, SENDS_QUERY),
+    (b"gx", LetterCase::Exact, SENDS_QUERY),
+    (b"gdesc", LetterCase::Exact, ENDS_QUERY),
+    (b"gexec", LetterCase::Exact, ENDS_QUERY),
+    (b"gset", LetterCase::Exact, ENDS_QUERY),
+    (b"getresults", LetterCase::Exact, ENDS_QUERY),
+    (b"crosstabview", LetterCase::Exact, ENDS_QUERY),
+    (b"watch", LetterCase::Exact, ENDS_QUERY),
+    (b"parse", LetterCase::Exact, ENDS_QUERY),
+    (b"close_prepared", LetterCase::Exact, ENDS_QUERY),
+    (b"sendpipeline", LetterCase::Exact, ENDS_QUERY),
+    (b"startpipeline", LetterCase::Exact, ENDS_QUERY),
+    (b"syncpipeline", LetterCase::Exact, ENDS_QUERY),
+    (b"endpipeline", LetterCase::Exact, ENDS_QUERY),
+    (b"flush", LetterCase::Exact, ENDS_QUERY),
+    (b"flushrequest", LetterCase::Exact, ENDS_QUERY),
+    (b"r", LetterCase::Exact, ENDS_QUERY),
+    (b"reset", LetterCase::Exact, ENDS_QUERY),
+    (b"o", LetterCase::Exact, TAKES_PIPE),
+    (b"out", LetterCase::Exact, TAKES_PIPE),
+    (b"w", LetterCase::Exact, TAKES_PIPE),
+    (b"write", LetterCase::Exact, TAKES_PIPE),
+    (b"!", LetterCase::Exact, READS_LINE),
+    (b"ef", LetterCase::Exact, READS_LINE),
+    (b"ev", LetterCase::Exact, READS_LINE),
+    (b"sf", LetterCase::Exact, READS_LINE),
+    (b"sf+", LetterCase::Exact, READS_LINE),
+    (b"sv", LetterCase::Exact, READS_LINE),
+    (b"sv+", LetterCase::Exact, READS_LINE),
+    (b"h", LetterCase::Exact, READS_LINE),
+    (b"help", LetterCase::Exact, READS_LINE),
+    (b"copy", LetterCase::Any, READS_LINE),
 ];
-
-/// The words that may be followed by a pipe to a program.
-const TAKES_PIPE: [&[u8]; 6] = [b"g", b"gx", b"o", b"out", b"w", b"write"];
-
-/// Those of them that take options in parentheses before it.
-const TAKES_OPTIONS: [&[u8]; 2] = [b"g", b"gx"];
-
-/// The words that take the rest of their line as it is, neither quotes nor backslashes read.
-const READS_LINE: [&[u8]; 9] = [
-    b"!", b"ef", b"ev", b"sf", b"sf+", b"sv", b"sv+", b"h", b"help",
-];
-
-/// The one that does so whatever the case of its letters.
-const READS_LINE_IN_ANY_CASE: [&[u8]; 1] = [b"copy"];
 
 /// What the word of so many bytes from the place on does.
 fn command_of<T: Text>(text: &T, place: u32, len: u32) -> Command
     requires { len ≤ length (T.bytes text.now) - place }
     ensures { result ≡ meaning (take len (drop place (T.bytes text.now))) }
 {
-    Command {
-        ends_query: is_one_of(text, place, len, false, &ENDS_QUERY),
-        takes_pipe: is_one_of(text, place, len, false, &TAKES_PIPE),
-        takes_options: is_one_of(text, place, len, false, &TAKES_OPTIONS),
-        reads_line: is_one_of(text, place, len, false, &READS_LINE)
-            || is_one_of(text, place, len, true, &READS_LINE_IN_ANY_CASE),
-    }
+    by_table(text, place, len, &WORDS)
 }
 
-/// Whether the bytes from the place on, so many, are one of the words.
-fn is_one_of<T: Text>(text: &T, place: u32, len: u32, any_case: bool, words: &[&[u8]]) -> bool
+/// What it does by a table of words.
+fn by_table<T: Text>(
+    text: &T,
+    place: u32,
+    len: u32,
+    words: &[(&[u8], LetterCase, Command)],
+) -> Command
     requires { len ≤ length (T.bytes text.now) - place }
-    ensures { result ≡ listed (fold any_case) (map (λ w. w.now) words.now) (take len (drop place (T.bytes text.now))) }
+    ensures { result ≡ found (map row words.now) (take len (drop place (T.bytes text.now))) }
 {
-    for word in words {
-        if is_word(text, place, len, any_case, word) {
-            return true;
+    for (word, case, command) in words {
+        if is_word(text, place, len, *case, word) {
+            return *command;
         }
     }
-    false
+    NOTHING
 }
 
 /// Whether these bytes are the word.
-fn is_word<T: Text>(text: &T, place: u32, len: u32, any_case: bool, word: &[u8]) -> bool
+fn is_word<T: Text>(text: &T, place: u32, len: u32, case: LetterCase, word: &[u8]) -> bool
     requires { len ≤ length (T.bytes text.now) - place }
-    ensures { result ≡ spelt (fold any_case) word.now (take len (drop place (T.bytes text.now))) }
+    ensures { result ≡ spelt (fold case) word.now (take len (drop place (T.bytes text.now))) }
 {
     if word.len() != len as usize {
         return false;
     }
-    let mut at = place;
-    for letter in word {
-        if folded(byte_at(text, at), any_case) != *letter {
+    for i in 0..len {
+        if folded(byte_at(text, place + i), case) != word[i as usize] {
             return false;
         }
-        at += 1;
     }
     true
 }
 
-/// The byte, as a small letter if any case will do.
-fn folded(byte: u8, any_case: bool) -> u8
-    ensures { result ≡ fold any_case byte }
+/// The byte, as a small letter where capital and small letters are alike.
+fn folded(byte: u8, case: LetterCase) -> u8
+    ensures { result ≡ fold case byte }
 {
-    if any_case {
-        byte.to_ascii_lowercase()
-    } else {
-        byte
+    match case {
+        LetterCase::Exact => byte,
+        LetterCase::Any => byte.to_ascii_lowercase(),
     }
 }

@@ -1,12 +1,12 @@
 //! The arguments of psql commands: quotes, escapes, and where the arguments end.
 
-ghost use Rattle.std.specs.Prelude.{◌≡◌, ◌+◌, ◌-◌, true, cond, drop};
+ghost use Rattle.std.specs.Prelude.{◌≡◌, ◌+◌, ◌-◌, true, cond, drop, None};
 ghost use Rattle.lexer.specs.Class.{hexadecimal, line_blank};
 ghost use Rattle.lexer.specs.Cursor.{run};
-ghost use Rattle.lexer.specs.PsqlArg.{after, after_escape, after_outside, after_quoted, arguments, hex_value, last_after, last_quoted, octal, options, outside, separates, stops};
+ghost use Rattle.lexer.specs.PsqlArg.{after, after_escape, after_outside, after_quoted, arguments, hex_value, is_parenthesis, last_after, last_quoted, octal, options, outside, separates, stops};
 
 use crate::class::{Class, DigitClass, HexDigit, LineBlank};
-use crate::cursor::Cursor;
+use crate::cursor::run_end;
 use text::Text;
 
 /// Where a reader of arguments stands.
@@ -86,25 +86,27 @@ impl ArgState {
         }
     }
 
-    /// The last character of the argument's value after one more byte, where it was `last`; 0 stands for none. While digits
+    /// The last character of the argument's value after one more byte, where it was `last`. While digits
     /// of an escape are read it is the character that they stand for so far. `\n` and its kind stand for control characters;
     /// the letter serves as well, since all that is asked of the last character is whether it is a parenthesis.
-    fn last_after(self, last: u8, byte: u8) -> u8
+    fn last_after(self, last: Option<u8>, byte: u8) -> Option<u8>
         ensures { result ≡ last_after self last byte }
     {
         match self {
             ArgState::Outside if byte == b'\'' => last,
-            ArgState::Outside | ArgState::Closing | ArgState::DoubleQuoted => byte,
-            ArgState::Backquoted => 0,
-            ArgState::Escape if is_octal_digit(byte) => byte - b'0',
-            ArgState::Escape => byte,
-            ArgState::OneOctalDigit | ArgState::TwoOctalDigits if is_octal_digit(byte) => last
-                .wrapping_mul(8)
-                .wrapping_add(byte - b'0'),
-            ArgState::HexMark if HexDigit::has_digit(byte) => hex_value(byte),
-            ArgState::OneHexDigit if HexDigit::has_digit(byte) => last
-                .wrapping_mul(16)
-                .wrapping_add(hex_value(byte)),
+            ArgState::Outside | ArgState::Closing | ArgState::DoubleQuoted => Some(byte),
+            ArgState::Backquoted => None,
+            ArgState::Escape if is_octal_digit(byte) => Some(byte - b'0'),
+            ArgState::Escape => Some(byte),
+            ArgState::OneOctalDigit | ArgState::TwoOctalDigits if is_octal_digit(byte) => {
+                let so_far = last?;
+                Some(so_far.wrapping_mul(8).wrapping_add(byte - b'0'))
+            }
+            ArgState::HexMark if HexDigit::has_digit(byte) => Some(hex_value(byte)),
+            ArgState::OneHexDigit if HexDigit::has_digit(byte) => {
+                let so_far = last?;
+                Some(so_far.wrapping_mul(16).wrapping_add(hex_value(byte)))
+            }
             _ => last_quoted(last, byte),
         }
     }
@@ -152,13 +154,20 @@ fn after_digit(is_digit: bool, more: ArgState, byte: u8) -> ArgState
 }
 
 /// Within single quotes a quote and a backslash stand for nothing yet.
-fn last_quoted(last: u8, byte: u8) -> u8
+fn last_quoted(last: Option<u8>, byte: u8) -> Option<u8>
     ensures { result ≡ last_quoted last byte }
 {
     match byte {
         b'\'' | b'\\' => last,
-        _ => byte,
+        _ => Some(byte),
     }
+}
+
+/// Whether the last character is a closing parenthesis.
+fn is_parenthesis(last: Option<u8>) -> bool
+    ensures { result ≡ is_parenthesis last }
+{
+    matches!(last, Some(b')'))
 }
 
 fn is_octal_digit(byte: u8) -> bool
@@ -180,6 +189,7 @@ fn hex_value(digit: u8) -> u8
 }
 
 /// Where the arguments end that begin at the place.
+#[tactic(auto, using(crate::proofs::Turns::turns))]
 pub(crate) fn arguments_end<T: Text>(text: &T, place: u32) -> u32
     ensures { result ≡ place + arguments ArgState.Outside (drop place (T.bytes text.now)) }
 {
@@ -198,12 +208,12 @@ pub(crate) fn arguments_end<T: Text>(text: &T, place: u32) -> u32
 /// Where the options of `\g (` end that begin at the place: with the blanks after the first argument whose value ends with
 /// a parenthesis, or with the arguments.
 pub(crate) fn options_end<T: Text>(text: &T, place: u32) -> u32
-    ensures { result ≡ place + options ArgState.Outside 0 (drop place (T.bytes text.now)) }
+    ensures { result ≡ place + options ArgState.Outside None (drop place (T.bytes text.now)) }
 {
     let mut end = place;
     'options: loop {
         let mut state = ArgState::Outside;
-        let mut last = 0;
+        let mut last = None;
         loop {
             let Some(byte) = text.byte(end) else {
                 break 'options;
@@ -218,19 +228,10 @@ pub(crate) fn options_end<T: Text>(text: &T, place: u32) -> u32
             state = state.after(byte);
             end += 1;
         }
-        end = blanks_end(text, end);
-        if last == b')' {
+        end = run_end(text, end, &LineBlank);
+        if is_parenthesis(last) {
             break 'options;
         }
     }
     end
-}
-
-/// Where the blanks end that stand at the place.
-fn blanks_end<T: Text>(text: &T, place: u32) -> u32
-    ensures { result ≡ place + run line_blank (drop place (T.bytes text.now)) }
-{
-    let mut cursor = Cursor::new(text, place);
-    cursor.eat_while(&LineBlank);
-    cursor.place()
 }

@@ -1,10 +1,11 @@
 //! Quoted strings and names, with and without a prefix.
 
 ghost use Rattle.std.specs.Prelude.{◌≡◌, ◌+◌, ◌<◌, false, drop};
-ghost use Rattle.lexer.specs.Cursor.{Moved, peek, rest};
+ghost use Rattle.lexer.specs.Byte.{byte};
+ghost use Rattle.lexer.specs.Cursor.{Eats, Moved, peek, rest};
 ghost use Rattle.lexer.specs.Quoted.{has_escapes, prefix_literal, quoted, quoted_closed};
 
-use crate::cursor::{Cursor, byte_at};
+use crate::cursor::{Cursor, Reach, byte_at};
 use crate::token::{LiteralKind, TokenKind};
 use text::Text;
 
@@ -47,9 +48,9 @@ impl Prefix {
 impl<'a, T: Text> Cursor<'a, T> {
     /// Goes on after the prefix: the quote, and the string that it opens.
     pub(crate) fn prefixed_string(&mut self, prefix: Prefix) -> TokenKind
-        requires { peek 0 (rest T.bytes self.old) ≡ 39 }
-        ensures kind { result ≡ TokenKind.Literal (prefix_literal prefix (quoted_closed 39 (has_escapes prefix) (drop 1 (rest T.bytes self.old)))) }
-        ensures moved { Moved self.old self.new (1 + quoted 39 (has_escapes prefix) (drop 1 (rest T.bytes self.old))) }
+        requires { peek 0 (rest self.old) ≡ byte "'" }
+        ensures kind { result ≡ TokenKind.Literal (prefix_literal prefix (quoted_closed (byte "'") (has_escapes prefix) (drop 1 (rest self.old)))) }
+        ensures moved { Moved self.old self.new (1 + quoted (byte "'") (has_escapes prefix) (drop 1 (rest self.old))) }
     {
         self.bump();
         let terminated = self.single_quoted_string(prefix.backslash_escapes());
@@ -60,43 +61,39 @@ impl<'a, T: Text> Cursor<'a, T> {
 
     /// Goes on after a `'`. Says whether the string is terminated.
     pub(crate) fn single_quoted_string(&mut self, backslash_escapes: bool) -> bool
-        ensures closed { result ≡ quoted_closed 39 backslash_escapes (rest T.bytes self.old) }
-        ensures moved { Moved self.old self.new (quoted 39 backslash_escapes (rest T.bytes self.old)) }
+        ensures closed { result ≡ quoted_closed (byte "'") backslash_escapes (rest self.old) }
+        ensures moved { Eats (quoted (byte "'") backslash_escapes) self.old self.new }
     {
-        let (end, terminated) = quoted_end(self.text(), self.place(), b'\'', backslash_escapes);
-        self.move_to(end);
-        terminated
+        self.pass(quoted_end(self.text(), self.place(), b'\'', backslash_escapes))
     }
 
     /// Goes on after a `"`. Says whether the name is terminated.
     pub(crate) fn double_quoted_string(&mut self) -> bool
-        ensures closed { result ≡ quoted_closed 34 false (rest T.bytes self.old) }
-        ensures moved { Moved self.old self.new (quoted 34 false (rest T.bytes self.old)) }
+        ensures closed { result ≡ quoted_closed (byte "\"") false (rest self.old) }
+        ensures moved { Eats (quoted (byte "\"") false) self.old self.new }
     {
-        let (end, terminated) = quoted_end(self.text(), self.place(), b'"', false);
-        self.move_to(end);
-        terminated
+        self.pass(quoted_end(self.text(), self.place(), b'"', false))
     }
 }
 
 /// Where the body ends whose opening quote ends at the place: after its closing quote, or with the text. And whether it
 /// is closed. A doubled quote is part of the body, and where there are escapes a backslash takes the next character.
-fn quoted_end<T: Text>(text: &T, place: u32, quote: u8, escapes: bool) -> (u32, bool)
+fn quoted_end<T: Text>(text: &T, place: u32, quote: u8, escapes: bool) -> Reach
     requires { 0 < quote }
-    ensures end { result.0 ≡ place + quoted quote escapes (drop place (T.bytes text.now)) }
-    ensures closed { result.1 ≡ quoted_closed quote escapes (drop place (T.bytes text.now)) }
+    ensures end { result.end ≡ place + quoted quote escapes (drop place (T.bytes text.now)) }
+    ensures closed { result.closed ≡ quoted_closed quote escapes (drop place (T.bytes text.now)) }
 {
     let mut end = place;
     while let Some(byte) = text.byte(end) {
         end += 1;
         if byte == quote {
             if byte_at(text, end) != quote {
-                return (end, true);
+                return Reach { end, closed: true };
             }
             end += 1;
         } else if escapes && byte == b'\\' && end < text.len() {
             end += 1;
         }
     }
-    (end, false)
+    Reach { end, closed: false }
 }

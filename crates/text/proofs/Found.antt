@@ -1,10 +1,7 @@
 -- The place of a fault as a checker finds it is the place that the table says.
-use Rattle.std.proofs.Common.{◌≡◌, ℕ, suc, ◌+◌, ◌-◌, ◌<◌, ◌≤◌, Bool, true, false, cond, ◌&&◌, eqb, ◌⊎◌, List, [], ◌∷◌, length, drop, Some, None, Ok, Err, Option, sym, refl, ap, ◌∙◌, inl, inr, add-one, arith}
+use Rattle.std.proofs.Common.{◌≡◌, ℕ, suc, ◌+◌, ◌-◌, ◌≤◌, Bool, true, false, cond, ◌&&◌, ◌⊎◌, List, [], ◌∷◌, length, drop, Some, None, sym, refl, ap, ◌∙◌, inl, inr, add-one, arith}
 use Rattle.std.specs.List.{slice_get}
 use Rattle.std.proofs.lemmas.List.{drop_all}
-use Rattle.text.specs.Clip.{longest}
-use Rattle.text.specs.Fit.{checked}
-use Rattle.text.specs.declared.fault.TextFault.TheVariants.{TooLong, IllFormed}
 use Rattle.text.proofs.Places.{nth_drop, nth_beyond}
 use Rattle.std.proofs.lemmas.Bool.Decides.{nat_tests}
 use Rattle.text.specs.Utf8.{Row, table, holds, matches, matched, sequence, sound, sound_after}
@@ -22,13 +19,14 @@ few_left b = grind (arith, nat_tests)
 pub lead_row : (b : ℕ) → (left_after b table ≡ []) ⊎ ((row : Row) × (left_after b table ≡ row ∷ []))
 lead_row b = one_or_none (left_after b table) (few_left b)
 
-unfoldable pub found : Progress → ℕ → List ℕ → Option ℕ
-found p i [] = cond (eqb p.taken 0) None (Some (i - p.taken))
-found p i (b ∷ bs) = cond (none_left (step p b).rows) (Some (i - (step p b).taken)) (found (step p b) (suc i) bs)
+-- how many bytes are well formed, as a checker finds it
+unfoldable pub found : Progress → ℕ → List ℕ → ℕ
+found p i [] = i - p.taken
+found p i (b ∷ bs) = cond (none_left (step p b).rows) (i - (step p b).taken) (found (step p b) (suc i) bs)
 
--- the place by the table, with bytes still to be passed
-abbrev told : ℕ → ℕ → List ℕ → Option ℕ
-told i n bs = cond (eqb (sound_after n bs) (length bs)) None (Some (i + sound_after n bs))
+-- the same by the table, with bytes still to be passed
+abbrev told : ℕ → ℕ → List ℕ → ℕ
+told i n bs = i + sound_after n bs
 
 -- a row is met byte by byte
 abbrev Full : List Row → Type 0
@@ -56,7 +54,7 @@ sequence-grown b bs = matched-grown table b bs tt
 
 pub told_more : (i n b : ℕ) (bs : List ℕ) → told i (suc n) (b ∷ bs) ≡ told (suc i) n bs
 unfolding sound_after
-told_more i n b bs = grind (arith, nat_tests)
+told_more i n b bs = omega arith
 
 pub sound_none : (b : ℕ) (bs : List ℕ) → sequence (b ∷ bs) ≡ 0 → sound (b ∷ bs) ≡ 0
 unfolding sound_after
@@ -66,19 +64,19 @@ pub sound_one : (b n : ℕ) (bs : List ℕ) → sequence (b ∷ bs) ≡ suc n �
 unfolding sound_after
 sound_one b n bs e = rw e (grind (arith, nat_tests))
 
-told_none : (i b : ℕ) (bs : List ℕ) → sequence (b ∷ bs) ≡ 0 → told i 0 (b ∷ bs) ≡ Some i
-told_none i b bs e = let z = sound_none b bs e in grind (arith, nat_tests)
+told_none : (i b : ℕ) (bs : List ℕ) → sequence (b ∷ bs) ≡ 0 → told i 0 (b ∷ bs) ≡ i
+told_none i b bs e = let z = sound_none b bs e in omega arith
 
 told_one : (i n b : ℕ) (bs : List ℕ) → sequence (b ∷ bs) ≡ suc n → told i 0 (b ∷ bs) ≡ told (suc i) n bs
-told_one i n b bs e = let z = sound_one b n bs e in grind (arith, nat_tests)
+told_one i n b bs e = let z = sound_one b n bs e in omega arith
 
-told_lead : (t : Bool) (i n b : ℕ) (bs : List ℕ) → sequence (b ∷ bs) ≡ cond t (suc n) 0 → cond t (told (suc i) n bs) (Some i) ≡ told i 0 (b ∷ bs)
+told_lead : (t : Bool) (i n b : ℕ) (bs : List ℕ) → sequence (b ∷ bs) ≡ cond t (suc n) 0 → cond t (told (suc i) n bs) i ≡ told i 0 (b ∷ bs)
 told_lead true i n b bs e = sym (told_one i n b bs e)
 told_lead false i n b bs e = sym (told_none i b bs e)
 
 -- what is found once a byte has left these rows
-abbrev left_found : ℕ → ℕ → List ℕ → List Row → Option ℕ
-left_found n i bs rows = cond (none_left (came_to rows n).rows) (Some (i - (came_to rows n).taken)) (found (came_to rows n) (suc i) bs)
+abbrev left_found : ℕ → ℕ → List ℕ → List Row → ℕ
+left_found n i bs rows = cond (none_left (came_to rows n).rows) (i - (came_to rows n).taken) (found (came_to rows n) (suc i) bs)
 
 left_one : (row : Row) (n i : ℕ) (bs : List ℕ) → left_found n i bs (row ∷ []) ≡ found (came_to (row ∷ []) n) (suc i) bs
 unfolding found
@@ -95,15 +93,15 @@ began [] n i m e = tt
 began (range ∷ row) n i m e = e
 
 -- a sequence that is begun is finished, or is the fault
-found-row : (row : Row) (n i m : ℕ) (bs : List ℕ) → Began row n i m → found (came_to (row ∷ []) n) i bs ≡ cond (matches row bs) (told i (length row) bs) (Some m)
+found-row : (row : Row) (n i m : ℕ) (bs : List ℕ) → Began row n i m → found (came_to (row ∷ []) n) i bs ≡ cond (matches row bs) (told i (length row) bs) m
 unfolding sound_after found
-found-row [] n i m [] e = refl
-found-row (range ∷ row) n i m [] e = grind (arith, nat_tests)
+found-row [] n i m [] e = omega arith
+found-row (range ∷ row) n i m [] e = omega arith
 found-row [] n i m (b ∷ bs) e =
     elim (lead_row b) [
       | inl l ↦
           ap (left_found 0 i bs) l
-          ∙ ap Some (omega arith)
+          ∙ omega arith
           ∙ sym (told_none i b bs (sequence-grown b bs ∙ ap (λ rows. grown rows bs) l))
       | inr l ↦
           ap (left_found 0 i bs) l.1
@@ -112,26 +110,19 @@ found-row [] n i m (b ∷ bs) e =
           ∙ told_lead (matches l.0 bs) i (length l.0) b bs (sequence-grown b bs ∙ ap (λ rows. grown rows bs) l.1)
     ]
 found-row (range ∷ row) n i m (b ∷ bs) e =
-    elim (holds range b) as (λ t. left_found (suc n) i bs (cond t (row ∷ []) []) ≡ cond (t && matches row bs) (told i (suc (length row)) (b ∷ bs)) (Some m)) [
+    elim (holds range b) as (λ t. left_found (suc n) i bs (cond t (row ∷ []) []) ≡ cond (t && matches row bs) (told i (suc (length row)) (b ∷ bs)) m) [
       | true ↦
           left_one row (suc n) i bs
           ∙ found-row row (suc n) (suc i) m bs (began row (suc n) (suc i) m (omega arith))
-          ∙ ap (λ o. cond (matches row bs) o (Some m)) (sym (told_more i (length row) b bs))
-      | false ↦ ap Some (omega arith)
+          ∙ ap (λ o. cond (matches row bs) o m) (sym (told_more i (length row) b bs))
+      | false ↦ omega arith
     ]
 
 found-told : (i : ℕ) (bs : List ℕ) → found between i bs ≡ told i 0 bs
 found-told i bs = found-row [] 0 i i bs tt
 
-pub checked_long : (bs : List ℕ) → longest < length bs → checked bs ≡ Err TooLong
-checked_long bs h = grind (arith, nat_tests)
-
--- the fault of a text that is not too long is the place that is found
-pub checked_ill : (bs : List ℕ) (i : ℕ) → length bs ≤ longest → found between 0 bs ≡ Some i → checked bs ≡ Err (IllFormed i)
-checked_ill bs i h e = let t : told 0 0 bs ≡ Some i = sym (found-told 0 bs) ∙ e in grind (arith, nat_tests)
-
-pub checked_fit : (bs : List ℕ) → length bs ≤ longest → found between 0 bs ≡ None → checked bs ≡ Ok tt
-checked_fit bs h e = let t : told 0 0 bs ≡ None = sym (found-told 0 bs) ∙ e in grind (arith, nat_tests)
+pub found_sound : (bs : List ℕ) → found between 0 bs ≡ sound bs
+found_sound bs = found-told 0 bs ∙ omega arith
 
 -- one byte, and the end
 step_taken : (rows : List Row) (n : ℕ) → (came_to rows n).taken ≤ n + 1
@@ -154,7 +145,7 @@ module _ (p q : Progress) (b : ℕ) (e : q ≡ step p b) where
       ∙ ill_taken (left_after b p.rows) p.taken (sym (ap (λ s. none_left s.rows) e) ∙ h)
 
 module _ (p q : Progress) (xs : List ℕ) (i b : ℕ) (at : slice_get xs i ≡ Some b) (e : q ≡ step p b) where
-  pub found_ill : none_left q.rows ≡ true → found p i (drop i xs) ≡ Some (i - q.taken)
+  pub found_ill : none_left q.rows ≡ true → found p i (drop i xs) ≡ i - q.taken
   unfolding found
   found_ill h = rw (nth_drop xs i b at, ← e, h)
 
@@ -166,10 +157,6 @@ module _ (p : Progress) (xs : List ℕ) (i : ℕ) (end : slice_get xs i ≡ None
   at_end : drop i xs ≡ []
   at_end = drop_all i xs (nth_beyond xs i end)
 
-  pub found_open : 0 < p.taken → found p i (drop i xs) ≡ Some (i - p.taken)
+  pub found_end : found p i (drop i xs) ≡ i - p.taken
   unfolding found
-  found_open h = rw at_end (grind (arith, nat_tests))
-
-  pub found_whole : p.taken ≡ 0 → found p i (drop i xs) ≡ None
-  unfolding found
-  found_whole h = rw at_end (grind (arith, nat_tests))
+  found_end = rw at_end

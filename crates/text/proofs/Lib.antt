@@ -1,6 +1,5 @@
 pub mod Places
 pub mod Clipped
-pub mod Moves
 pub mod Found
 pub mod Encoded
 pub mod Sound

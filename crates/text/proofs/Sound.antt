@@ -111,3 +111,5 @@ tells bs r e = record {
       let h : sound bs < length bs = grind (arith, tests) in
       (l, subst (IsValidUpTo bs) q (valid_to_fault bs h));
 }
+
+pub ruleset told = (tells, table_is_utf8)

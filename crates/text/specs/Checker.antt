@@ -2,6 +2,7 @@
 use Rattle.std.specs.Prelude.{◌≡◌, ℕ, suc, Bool, true, false, if◌then◌else◌, List, [], ◌∷◌, length, drop, nat_lt}
 use Rattle.text.specs.Utf8.{Row, tail, table, holds, sound, WellFormed}
 use Rattle.text.specs.declared.utf8.State.{State}
+use Rattle.text.specs.declared.utf8.Utf8Checker.{Utf8Checker}
 use Rattle.text.specs.declared.utf8.State.TheVariants.{Between, OneOfTwo, AfterE0, OneOfThree, AfterED, AfterF0, OneOfFour, AfterF4, TwoOfThree, TwoOfFour, ThreeOfFour, Ill}
 
 -- What may come next: what is left of the rows that the bytes of the unfinished sequence match. No row is left
@@ -62,16 +63,20 @@ abbrev pub RunsByTable : Type 0
 RunsByTable = (bs : List ℕ) → Stands bs (run between bs)
 
 -- What each state of the checker says.
-abbrev pub progress : State → Progress
-progress Between = between
-progress OneOfTwo = record { rows = (tail ∷ []) ∷ []; taken = 1 }
-progress AfterE0 = record { rows = ((0xA0, 0xBF) ∷ tail ∷ []) ∷ []; taken = 1 }
-progress OneOfThree = record { rows = (tail ∷ tail ∷ []) ∷ []; taken = 1 }
-progress AfterED = record { rows = ((0x80, 0x9F) ∷ tail ∷ []) ∷ []; taken = 1 }
-progress AfterF0 = record { rows = ((0x90, 0xBF) ∷ tail ∷ tail ∷ []) ∷ []; taken = 1 }
-progress OneOfFour = record { rows = (tail ∷ tail ∷ tail ∷ []) ∷ []; taken = 1 }
-progress AfterF4 = record { rows = ((0x80, 0x8F) ∷ tail ∷ tail ∷ []) ∷ []; taken = 1 }
-progress TwoOfThree = record { rows = (tail ∷ []) ∷ []; taken = 2 }
-progress TwoOfFour = record { rows = (tail ∷ tail ∷ []) ∷ []; taken = 2 }
-progress ThreeOfFour = record { rows = (tail ∷ []) ∷ []; taken = 3 }
-progress (Ill n) = record { rows = []; taken = n }
+abbrev pub state_progress : State → Progress
+state_progress Between = between
+state_progress OneOfTwo = record { rows = (tail ∷ []) ∷ []; taken = 1 }
+state_progress AfterE0 = record { rows = ((0xA0, 0xBF) ∷ tail ∷ []) ∷ []; taken = 1 }
+state_progress OneOfThree = record { rows = (tail ∷ tail ∷ []) ∷ []; taken = 1 }
+state_progress AfterED = record { rows = ((0x80, 0x9F) ∷ tail ∷ []) ∷ []; taken = 1 }
+state_progress AfterF0 = record { rows = ((0x90, 0xBF) ∷ tail ∷ tail ∷ []) ∷ []; taken = 1 }
+state_progress OneOfFour = record { rows = (tail ∷ tail ∷ tail ∷ []) ∷ []; taken = 1 }
+state_progress AfterF4 = record { rows = ((0x80, 0x8F) ∷ tail ∷ tail ∷ []) ∷ []; taken = 1 }
+state_progress TwoOfThree = record { rows = (tail ∷ []) ∷ []; taken = 2 }
+state_progress TwoOfFour = record { rows = (tail ∷ tail ∷ []) ∷ []; taken = 2 }
+state_progress ThreeOfFour = record { rows = (tail ∷ []) ∷ []; taken = 3 }
+state_progress (Ill n) = record { rows = []; taken = n }
+
+-- How far a checker has come.
+abbrev pub progress : Utf8Checker → Progress
+progress c = state_progress c.state

@@ -4,9 +4,9 @@ use Rattle.text.specs.Clip.{clip}
 use Rattle.text.specs.declared.flat.Flat.{Flat}
 use Rattle.text.specs.declared.halves.Halves.{Halves}
 
--- A flat text means its one run.
-abbrev pub flat_bytes : Flat → List ℕ
-flat_bytes t = clip t.run.now
+-- The run of a flat text.
+abbrev pub flat_run : Flat → List ℕ
+flat_run t = t.run.now
 
 -- Halves mean the front run followed by the back run, each clipped by itself.
 abbrev pub halves_bytes : Halves → List ℕ

@@ -2,7 +2,7 @@
 
 ghost use Rattle.std.specs.Prelude.{◌≡◌};
 ghost use Rattle.text.specs.Clip.{clip, clip_short};
-ghost use Rattle.text.specs.Meanings.{flat_bytes};
+ghost use Rattle.text.specs.Meanings.{flat_run};
 
 use crate::Text;
 use crate::run::{clipped_byte, clipped_len};
@@ -16,15 +16,15 @@ pub struct Flat<'a> {
 impl<'a> Flat<'a> {
     /// The text of `run`.
     pub fn new(run: &'a [u8]) -> Flat<'a>
-        ensures run { result.run.now ≡ run.now }
-        ensures bytes { flat_bytes result ≡ clip run.now }
+        ensures run { flat_run result ≡ run.now }
+        ensures bytes { ⟦<Flat<'a> as Text>⟧.bytes result ≡ clip run.now }
     {
         Flat { run }
     }
 }
 
 impl<'a> Text for Flat<'a> {
-    ghost bytes = { flat_bytes };
+    ghost bytes = { λ t. clip (flat_run t) };
 
     ghost short = { λ t. clip_short t.run.now };
 

@@ -26,8 +26,6 @@ pub use utf8::Utf8Checker;
 pub trait Text {
     ghost bytes: { Self → List ℕ };
 
-    ghost short: { (t : Self) → length (bytes t) < 2 ^ 32 };
-
     /// How many bytes the text has.
     fn len(&self) -> u32
         ensures { result ≡ length (bytes self.now) };
@@ -35,4 +33,6 @@ pub trait Text {
     /// The byte at a place, or `None` exactly when the place is not below the length.
     fn byte(&self, place: u32) -> Option<u8>
         ensures { result ≡ slice_get (bytes self.now) place };
+
+    ghost short: { (t : Self) → length (bytes t) < 2 ^ 32 };
 }

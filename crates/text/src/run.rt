@@ -12,6 +12,7 @@ pub const LONGEST: u32 = 16_777_216;
 const CLIP: usize = LONGEST as usize + 1;
 
 /// How many bytes of `run` count.
+#[tactic(auto, using(crate::proofs::Clipped::clipped))]
 pub(crate) fn clipped_len(run: &[u8]) -> u32
     ensures { result ≡ length (clip run.now) }
 {
@@ -19,6 +20,7 @@ pub(crate) fn clipped_len(run: &[u8]) -> u32
 }
 
 /// The byte of `run` at a place, among those that count.
+#[tactic(auto, using(crate::proofs::Clipped::clipped))]
 pub(crate) fn clipped_byte(run: &[u8], place: u32) -> Option<u8>
     ensures { result ≡ slice_get (clip run.now) place }
 {

@@ -31,7 +31,7 @@ pub struct Utf8Checker {
 impl Utf8Checker {
     /// A checker that has met no byte. Fed the bytes of any list, it comes to where the table says.
     pub fn new() -> Utf8Checker
-        ensures start { progress result.state ≡ between }
+        ensures start { progress result ≡ between }
         ensures runs { RunsByTable }
     {
         Utf8Checker {
@@ -41,7 +41,7 @@ impl Utf8Checker {
 
     /// Moves by the state and the byte together, as the rows of the table of well-formed sequences go.
     pub fn feed(&mut self, byte: u8)
-        ensures { progress self.new.state ≡ step (progress self.old.state) byte }
+        ensures { progress self.new ≡ step (progress self.old) byte }
     {
         self.state = match (self.state, byte) {
             (State::Between, 0x00..=0x7F) => State::Between,
@@ -70,7 +70,7 @@ impl Utf8Checker {
 
     /// How many bytes were taken of the sequence that is unfinished or ill-formed: 0 to 3.
     pub fn taken(&self) -> u8
-        ensures { result ≡ (progress self.now.state).taken }
+        ensures { result ≡ (progress self.now).taken }
     {
         match self.state {
             State::Between => 0,
@@ -84,7 +84,7 @@ impl Utf8Checker {
 
     /// Whether a byte was met that no row of the table allows.
     pub fn is_ill(&self) -> bool
-        ensures { result ≡ none_left (progress self.now.state).rows }
+        ensures { result ≡ none_left (progress self.now).rows }
     {
         match self.state {
             State::Ill { taken: _ } => true,

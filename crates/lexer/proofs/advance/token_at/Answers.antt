@@ -1,9 +1,9 @@
-use Rattle.std.proofs.Common.{◌<◌, ◌&&◌, eqb, length, drop, sym, refl, ap, ◌∙◌, subst, arith, rules, eqb-true}
+use Rattle.std.proofs.Common.{◌<◌, ◌&&◌, eqb, length, sym, refl, ap, ◌∙◌, subst, arith, rules, eqb-true}
 use Rattle.lexer.proofs.AllLaws.{all_laws}
 use Rattle.lexer.proofs.Rest.{within}
 use Rattle.lexer.proofs.Within.{Stands, token_stands}
 use Rattle.lexer.proofs.advance.token_at.Goals as goal
-use Rattle.lexer.specs.Cursor.{peek}
+use Rattle.lexer.specs.Cursor.{peek, rest}
 use Rattle.lexer.specs.Lex.{token_from}
 use Rattle.lexer.specs.declared.token.Token.{Token}
 use Rattle.std.proofs.lemmas.Bool.{and_parts}
@@ -19,9 +19,8 @@ returns-then-starts_with_mark g c =
 pub returns : goal.returns
 returns g c =
     let xs = g.T.Text.bytes c.args.text.now in
-    let made = c.new.ensures in
     let h : c.args.place < length xs = omega arith in
-    let is = c.advance_token.ensures ∙ ap (λ t. token_from (drop c.new.result.place (g.T.Text.bytes t.now))) made.0 ∙ ap (λ k. token_from (drop k xs)) made.2 in
+    let is = c.advance_token.ensures ∙ ap (λ s. token_from (rest s)) c.new.ensures in
     let stands = subst (λ (t : Token). Stands xs c.args.place t) (sym is) (token_stands xs c.args.place h) in
     record { value = search rules; inside = stands.inside; laws = all_laws; real = stands.real }
 

@@ -3,17 +3,7 @@ use Rattle.lexer.proofs.Rest.{inside}
 use Rattle.lexer.proofs.psql_arg.options_end.Goals as goal
 use Rattle.lexer.specs.PsqlArg.{options}
 use Rattle.lexer.specs.declared.psql_arg.ArgState.TheVariants.{Outside}
-use Rattle.std.proofs.Common.{drop, ap, arith, rules}
-
-pub overflow_add-end : goal.overflow_add-end
-overflow_add-end g c =
-    let within = inside (g.T.Text.bytes c.args.text.now) c.loop-byte.end c.in-Some.byte c.in-Some.ensures in
-    let short = g.T.Text.short c.args.text.now in
-    search rules
-
-pub loop-byte-smaller : goal.loop-byte-smaller
-loop-byte-smaller g c =
-    let within = inside (g.T.Text.bytes c.args.text.now) c.loop-byte.end c.in-Some.byte c.in-Some.ensures in omega arith
+use Rattle.std.proofs.Common.{None, drop, sym, ap, arith, rules}
 
 pub loop-byte-preserved : goal.loop-byte-preserved
 loop-byte-preserved g c =
@@ -30,8 +20,8 @@ options-smaller g c =
 pub options-preserved : goal.options-preserved
 options-preserved g c =
     let xs = g.T.Text.bytes c.args.text.now in
-    let next = options_next xs c.loop-byte.end c.in-Some.byte c.in-Some.ensures c.loop-byte.state c.loop-byte.last c.if-stops.ensures c.if-ends_argument.ensures c.if-last-eq41.false in
-    let same = ap (λ n. options Outside 0 (drop n xs)) c.blanks_end-end.ensures in
+    let next = options_next xs c.loop-byte.end c.in-Some.byte c.in-Some.ensures c.loop-byte.state c.loop-byte.last c.if-stops.ensures c.if-ends_argument.ensures (sym c.if-is_parenthesis.ensures) in
+    let same = ap (λ n. options Outside None (drop n xs)) c.run_end-end.ensures in
     omega arith
 
 pub returns-in_default : goal.returns-in_default
@@ -44,7 +34,17 @@ returns-then-stops g c =
     let stop = options_stop (g.T.Text.bytes c.args.text.now) c.loop-byte.end c.in-Some.byte c.in-Some.ensures c.loop-byte.state c.loop-byte.last c.if-stops.ensures in
     omega arith
 
-pub returns-then-last-eq41 : goal.returns-then-last-eq41
-returns-then-last-eq41 g c =
-    let end = options_end_lem (g.T.Text.bytes c.args.text.now) c.loop-byte.end c.in-Some.byte c.in-Some.ensures c.loop-byte.state c.loop-byte.last c.if-stops.ensures c.if-ends_argument.ensures c.if-last-eq41.true in
+pub returns-then-is_parenthesis : goal.returns-then-is_parenthesis
+returns-then-is_parenthesis g c =
+    let end = options_end_lem (g.T.Text.bytes c.args.text.now) c.loop-byte.end c.in-Some.byte c.in-Some.ensures c.loop-byte.state c.loop-byte.last c.if-stops.ensures c.if-ends_argument.ensures (sym c.if-is_parenthesis.ensures) in
     omega arith
+
+pub overflow_add-end : goal.overflow_add-end
+overflow_add-end g c =
+    let within = inside (g.T.Text.bytes c.args.text.now) c.loop-byte.end c.in-Some.byte c.in-Some.ensures in
+    let short = g.met.T.Text.short c.args.text.now in
+    search rules
+
+pub loop-byte-smaller : goal.loop-byte-smaller
+loop-byte-smaller g c =
+    let within = inside (g.T.Text.bytes c.args.text.now) c.loop-byte.end c.in-Some.byte c.in-Some.ensures in omega arith

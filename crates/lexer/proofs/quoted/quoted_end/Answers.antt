@@ -1,32 +1,15 @@
-use Rattle.std.proofs.Common.{◌≡◌, ◌+◌, ◌<◌, ◌≤◌, false, ◌&&◌, length, sym, ◌∙◌, arith, rules, ne_eqb}
-use Rattle.lexer.proofs.Quotes.{closed_past, closing_quote, doubled_quote, escaped, last, plain, quoted_past, within_positive}
+use Rattle.std.proofs.Common.{◌≡◌, ◌+◌, ◌<◌, ◌≤◌, false, ◌&&◌, length, sym, ◌∙◌, arith, ne_eqb}
+use Rattle.lexer.proofs.Quotes.{closed_past, closing_quote, doubled_quote, escaped, last, plain, quoted_past}
 use Rattle.lexer.proofs.Rest.{inside}
 use Rattle.lexer.proofs.quoted.quoted_end.Goals as goal
 use Rattle.lexer.proofs.quoted.quoted_end.Goals.{else-escapes-via-then-escapes+then-byte-eq92+else-end-len, else-escapes-via-then-escapes+else-byte-eq92, else-escapes-via-else-escapes}
 use Rattle.lexer.specs.Class.{backslash}
-
-pub overflow_add-end : goal.overflow_add-end
-overflow_add-end g c =
-    let within = inside (g.T.Text.bytes c.args.text.now) c.loop-byte.end c.in-Some.byte c.in-Some.ensures in
-    let short = g.T.Text.short c.args.text.now in
-    search rules
 
 pub returns-then-byte_at-quote : goal.returns-then-byte_at-quote
 returns-then-byte_at-quote g c =
     let xs = g.T.Text.bytes c.args.text.now in
     let turn = closing_quote c.args.quote c.args.escapes c.requires c.in-Some.byte xs c.loop-byte.end c.in-Some.ensures c.if-byte-quote.true (λ e. c.if-byte_at-quote.true (c.byte_at.ensures ∙ e)) in
     record { end = omega (arith, turn.0); closed = sym turn.1 ∙ c.loop-byte.invariant.1 }
-
-pub overflow_add-end-then-byte-quote : goal.overflow_add-end-then-byte-quote
-overflow_add-end-then-byte-quote g c =
-    let xs = g.T.Text.bytes c.args.text.now in
-    let more : c.loop-byte.end + 1 < length xs = within_positive xs (c.loop-byte.end + 1) (omega arith) in
-    let short = g.T.Text.short c.args.text.now in
-    search rules
-
-pub loop-byte-smaller-then-byte-quote : goal.loop-byte-smaller-then-byte-quote
-loop-byte-smaller-then-byte-quote g c =
-    let within = inside (g.T.Text.bytes c.args.text.now) c.loop-byte.end c.in-Some.byte c.in-Some.ensures in omega arith
 
 pub loop-byte-preserved-then-byte-quote : goal.loop-byte-preserved-then-byte-quote
 loop-byte-preserved-then-byte-quote g c =

@@ -6,4 +6,4 @@ pub returns : goal.returns
 unfolding decimal_number decimal_len
 returns g c =
     let first = c.eat_digits.ensures.moved in
-    record { kind = said_then g.T.Text.bytes after_digits first c.requires c.after_digits.ensures.kind; moved = moved_then g.T.Text.bytes after_digits_len first c.after_digits.ensures.moved }
+    record { kind = said_then after_digits first c.after_digits.ensures.kind; moved = moved_then after_digits_len first c.after_digits.ensures.moved }

@@ -1,41 +1,41 @@
 use Rattle.std.proofs.Common.{◌≡◌, ◌+◌, ◌-◌, ◌∷◌, length, take, drop, sym, ap, ◌∙◌, arith}
+use Rattle.lexer.proofs.Moves.{moved_by, moved_trans}
 use Rattle.lexer.proofs.Dollars.{opener_bytes, opener_moved, opener_within}
 use Rattle.lexer.proofs.cursor.Cursor.dollar_quoted_string.Goals as goal
 use Rattle.lexer.specs.Cursor.{rest}
 use Rattle.lexer.specs.Dollar.{delimited, delimited_closed, dollar_delimiter, dollar_opener}
 use Rattle.std.proofs.lemmas.List.{drop-drop, length-drop}
 
-pub dollar_end-end-requires : goal.dollar_end-end-requires
-dollar_end-end-requires g c =
-    let bytes = g.T.Text.bytes in
+pub dollar_end-requires : goal.dollar_end-requires
+dollar_end-requires g c =
     let self = c.args.self.now in
-    let opened = opener_moved bytes c.requires.opens c.eat_while.ensures c.bump.ensures.moved in
+    let opened = opener_moved c.requires.opens c.eat_while.ensures c.bump.ensures.moved in
     let place = opened.place in
-    let same = ap (λ t. length (bytes t.now)) (c.text.ensures ∙ opened.text) in
-    let room = opener_within (rest bytes self) c.requires.opens in
-    let left = length-drop self.place (bytes self.text.now) in
+    let same = ap length (c.text.ensures ∙ opened.text) in
+    let room = opener_within (rest self) c.requires.opens in
+    let left = length-drop self.place (self.text) in
     record { some = omega arith; within = omega arith }
 
 pub returns : goal.returns
 returns g c =
-    let bytes = g.T.Text.bytes in
     let self = c.args.self.now in
-    let bs = bytes self.text.now in
-    let xs = rest bytes self in
+    let bs = self.text in
+    let xs = rest self in
     let n = dollar_opener xs in
-    let opened = opener_moved bytes c.requires.opens c.eat_while.ensures c.bump.ensures.moved in
+    let opened = opener_moved c.requires.opens c.eat_while.ensures c.bump.ensures.moved in
     let place = opened.place in
-    let same : bytes c.text.result.now ≡ bs = ap (λ t. bytes t.now) (c.text.ensures ∙ opened.text) in
+    let same : g.T.Text.bytes c.text.result.now ≡ bs = (c.text.ensures ∙ opened.text) in
     let from = c.place-opener.result - 1 in
     let len = c.place.result - from in
-    let at : from ≡ self.start = omega arith in
+    let sign = c.requires.sign in
+    let at : from ≡ self.place - 1 = omega (arith, sign.some) in
     let long : len ≡ n + 1 = omega arith in
-    let delimiter : take len (drop from (bytes c.text.result.now)) ≡ dollar_delimiter xs = ap (λ l. take len (drop from l)) same ∙ ap (λ k. take k (drop from bs)) long ∙ ap (λ k. take (n + 1) (drop k bs)) at ∙ opener_bytes bs self.start n c.requires.sign ∙ ap (λ k. 36 ∷ take n (drop k bs)) (sym c.requires.first) in
-    let body : drop (from + len) (bytes c.text.result.now) ≡ drop n xs = ap (drop (from + len)) same ∙ ap (λ k. drop k bs) (omega arith) ∙ sym (drop-drop n self.place bs) in
-    let end = c.dollar_end-end.ensures.end in
-    let more = ap (λ l. delimited l (drop (from + len) (bytes c.text.result.now))) delimiter ∙ ap (delimited (dollar_delimiter xs)) body in
-    let moved = c.move_to.ensures.place in
+    let delimiter : take len (drop from (g.T.Text.bytes c.text.result.now)) ≡ dollar_delimiter xs = ap (λ l. take len (drop from l)) same ∙ ap (λ k. take k (drop from bs)) long ∙ ap (λ k. take (n + 1) (drop k bs)) at ∙ opener_bytes bs (self.place - 1) n sign.byte ∙ ap (λ k. 36 ∷ take n (drop k bs)) (omega (arith, sign.some)) in
+    let body : drop (from + len) (g.T.Text.bytes c.text.result.now) ≡ drop n xs = ap (drop (from + len)) same ∙ ap (λ k. drop k bs) (omega arith) ∙ sym (drop-drop n self.place bs) in
+    let end = c.dollar_end.ensures.end in
+    let more = ap (λ l. delimited l (drop (from + len) (g.T.Text.bytes c.text.result.now))) delimiter ∙ ap (delimited (dollar_delimiter xs)) body in
+    let moved = c.pass.ensures.moved in
     record {
-      closed = c.dollar_end-end.ensures.closed ∙ ap (λ l. delimited_closed l (drop (from + len) (bytes c.text.result.now))) delimiter ∙ ap (delimited_closed (dollar_delimiter xs)) body;
-      moved = record { text = c.move_to.ensures.text ∙ opened.text; start = c.move_to.ensures.start ∙ opened.start; place = omega arith };
+      closed = c.pass.ensures.closed ∙ c.dollar_end.ensures.closed ∙ ap (λ l. delimited_closed l (drop (from + len) (g.T.Text.bytes c.text.result.now))) delimiter ∙ ap (delimited_closed (dollar_delimiter xs)) body;
+      moved = moved_by (omega arith) (moved_trans opened moved);
     }

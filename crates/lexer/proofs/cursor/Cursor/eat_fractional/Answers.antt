@@ -1,4 +1,4 @@
-use Rattle.lexer.proofs.Moves.{moved_by, moved_into, moved_order, moved_then, said_then, stayed}
+use Rattle.lexer.proofs.Moves.{moved_by, moved_into, moved_then, said_then, stayed}
 use Rattle.lexer.proofs.cursor.Cursor.eat_fractional.Goals as goal
 use Rattle.lexer.proofs.cursor.Cursor.eat_fractional.Goals.{then-is_digit, else-is_digit}
 use Rattle.lexer.specs.Class.{decimal}
@@ -6,18 +6,11 @@ use Rattle.lexer.specs.Cursor.{Moved, digits, rest}
 use Rattle.lexer.specs.Number.{fraction, fractional, fractional_len, numeric, numeric_len}
 use Rattle.std.proofs.Common.{cond, sym, ap, ◌∙◌}
 
-pub eat_numeric-requires : goal.eat_numeric-requires
-eat_numeric-requires g c =
-    elim c.if-is_digit.branch [
-      | then-is_digit w ↦ moved_order (moved_into w.self-is w.eat_digits.ensures.moved) c.requires
-      | else-is_digit w ↦ moved_order (moved_into w.self-is (stayed c.args.self.now)) c.requires
-    ]
-
 pub returns : goal.returns
 unfolding fractional fractional_len
 returns g c =
     let bytes = g.T.Text.bytes in
-    let xs = rest bytes c.args.self.now in
+    let xs = rest c.args.self.now in
     let m : Moved c.args.self.now c.if-is_digit.self (fraction xs) =
     elim c.if-is_digit.branch [
       | then-is_digit w ↦
@@ -27,4 +20,4 @@ returns g c =
           let none = sym (ap decimal c.first.ensures) ∙ sym c.is_digit.ensures ∙ w.if-is_digit.false in
           moved_into w.self-is (moved_by (sym (ap (λ b. cond b (digits decimal xs) 0) none)) (stayed c.args.self.now))
     ] in
-    record { kind = said_then bytes numeric m c.requires c.eat_numeric.ensures.kind; moved = moved_then bytes numeric_len m c.eat_numeric.ensures.moved }
+    record { kind = said_then numeric m c.eat_numeric.ensures.kind; moved = moved_then numeric_len m c.eat_numeric.ensures.moved }

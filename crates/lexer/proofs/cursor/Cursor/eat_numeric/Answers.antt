@@ -1,5 +1,5 @@
-use Rattle.std.proofs.Common.{◌-◌, ap, ◌∙◌}
-use Rattle.lexer.proofs.Moves.{moved_pos, moved_then}
+use Rattle.std.proofs.Common.{ap, ◌∙◌}
+use Rattle.lexer.proofs.Moves.{moved_then}
 use Rattle.lexer.proofs.cursor.Cursor.eat_numeric.Goals as goal
 use Rattle.lexer.specs.Cursor.{identifier, rest}
 use Rattle.lexer.specs.Number.{empty_exponent, numeric, numeric_len}
@@ -12,6 +12,6 @@ returns g c =
     let exponent = c.eat_exponent-empty_exponent_start.ensures in
     record {
       kind = ap (λ e. Numeric e c.pos_within_token-trailing_junk_start.result) exponent.value
-          ∙ ap (Numeric (empty_exponent (c.args.self.now.place - c.args.self.now.start) (rest bytes c.args.self.now))) (c.pos_within_token-trailing_junk_start.ensures ∙ moved_pos exponent.moved c.requires);
-      moved = moved_then bytes identifier exponent.moved c.eat_identifier.ensures;
+          ∙ ap (Numeric (empty_exponent c.args.self.now.eaten (rest c.args.self.now))) (c.pos_within_token-trailing_junk_start.ensures ∙ exponent.moved.eaten);
+      moved = moved_then identifier exponent.moved c.eat_identifier.ensures;
     }

@@ -9,23 +9,21 @@ use Rattle.lexer.specs.declared.token.TokenKind.TheVariants.{PsqlCommand}
 
 pub command_of-command-requires : goal.command_of-command-requires
 command_of-command-requires g c =
-    let bytes = g.T.Text.bytes in
-    let same = ap (λ t. length (bytes t.now)) (c.text.ensures ∙ c.eat_while.ensures.text) in
-    let short = run_end_within command_letter (bytes c.args.self.now.text.now) c.args.self.now.place c.place.result (c.place.ensures ∙ c.eat_while.ensures.place) in
+    let same = ap length (c.text.ensures ∙ c.eat_while.ensures.text) in
+    let short = run_end_within command_letter (c.args.self.now.text) c.args.self.now.place c.place.result (c.place.ensures ∙ c.eat_while.ensures.place) in
     omega arith
 
 pub returns : goal.returns
 returns g c =
-    let bytes = g.T.Text.bytes in
     let self = c.args.self.now in
-    let xs = rest bytes self in
+    let xs = rest self in
     let n = run command_letter xs in
     let len : c.place.result - c.place-place.result ≡ n = omega arith in
     let made = c.command_of-command.result in
     let known : made ≡ command xs =
     c.command_of-command.ensures
-    ∙ ap (λ k. meaning (take k (drop c.place-place.result (bytes c.text.result.now)))) len
-    ∙ ap (λ p. meaning (take n (drop p (bytes c.text.result.now)))) c.place-place.ensures
-    ∙ ap (λ t. meaning (take n (drop self.place (bytes t.now)))) (c.text.ensures ∙ c.eat_while.ensures.text) in
-    let moves = moved_then bytes (followed (before_pipe made) (what_follows made)) c.eat_while.ensures (moved_then bytes (what_follows made) c.eat_before_pipe.ensures c.eat_what_follows.ensures) in
+    ∙ ap (λ k. meaning (take k (drop c.place-place.result (g.T.Text.bytes c.text.result.now)))) len
+    ∙ ap (λ p. meaning (take n (drop p (g.T.Text.bytes c.text.result.now)))) c.place-place.ensures
+    ∙ ap (λ t. meaning (take n (drop self.place t))) (c.text.ensures ∙ c.eat_while.ensures.text) in
+    let moves = moved_then (followed (before_pipe made) (what_follows made)) c.eat_while.ensures (moved_then (what_follows made) c.eat_before_pipe.ensures c.eat_what_follows.ensures) in
     record { kind = ap (λ k. PsqlCommand k.ends_query) known; moved = moved_by (ap (λ k. followed (run command_letter) (followed (before_pipe k) (what_follows k)) xs) known) moves }
