@@ -1,7 +1,7 @@
 -- A listing that is written to a room of the caller's.
-use Rattle.std.specs.Prelude.{◌≡◌, ℕ, List, length, string_bytes}
+use Rattle.std.specs.Prelude.{◌≡◌, ℕ, List, length}
 use Rattle.bridge.specs.Fill.{filled}
-use Rattle.listing.specs.Listed.{Answers, admitted}
+use Rattle.listing.specs.Listed.{Answers, admitted, text_of}
 use Rattle.listing.specs.declared.Listing.{Listing}
 
 -- the answer when there is no memory: no listing is as long
@@ -12,5 +12,5 @@ no_memory = 18446744073709551615
 pub record Fills (input room after : List ℕ) (answer : ℕ) : Type 0 where
   pub listing : Listing
   pub listed : Answers input (admitted input) listing
-  pub answered : answer ≡ length (string_bytes listing.lines)
-  pub handed : after ≡ filled (string_bytes listing.lines) room
+  pub answered : answer ≡ length (text_of listing)
+  pub handed : after ≡ filled (text_of listing) room

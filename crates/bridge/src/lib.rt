@@ -16,8 +16,9 @@ pub extern "C" fn cushallen_listing(heap: Global, input: &[u8], out: &mut [u8]) 
 {
     match list_input(heap, input) {
         Ok(listing) => {
-            fill_front(listing.lines.as_bytes(), out);
-            listing.lines.len()
+            let text = listing.text();
+            fill_front(text.as_bytes(), out);
+            text.len()
         }
         Err(_) => usize::MAX,
     }

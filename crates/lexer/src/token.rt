@@ -4,7 +4,7 @@ ghost use Rattle.lexer.specs.Token.{base_number};
 ghost use Rattle.std.specs.Prelude.{◌≡◌};
 
 /// What a token is.
-#[derive(Clone, Copy)]
+#[derive(Clone, Copy, PartialEq, Eq, Debug)]
 pub enum TokenKind {
     /// A character that starts no other token.
     Unknown,
@@ -85,7 +85,7 @@ pub enum TokenKind {
 }
 
 /// What a constant is. Offsets count in bytes from the token's start.
-#[derive(Clone, Copy)]
+#[derive(Clone, Copy, PartialEq, Eq, Debug)]
 pub enum LiteralKind {
     /// A whole number. `empty_int` is set where neither digit nor junk follows the prefix.
     Int {
@@ -129,7 +129,7 @@ pub enum LiteralKind {
 }
 
 /// The base of a whole number, by its prefix.
-#[derive(Clone, Copy)]
+#[derive(Clone, Copy, PartialEq, Eq, Debug)]
 pub enum Base {
     /// `0b`
     Binary = 2,
@@ -142,7 +142,7 @@ pub enum Base {
 }
 
 /// A token is its kind and its length in bytes, and nothing else.
-#[derive(Clone, Copy)]
+#[derive(Clone, Copy, PartialEq, Eq, Debug)]
 pub struct Token {
     pub kind: TokenKind,
     pub len: u32,

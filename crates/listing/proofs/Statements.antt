@@ -6,42 +6,41 @@ use Rattle.statement.specs.declared.Cause.{Cause}
 use Rattle.statement.specs.declared.Statement.{Statement}
 use Rattle.statement.specs.Ends.{solid, next_state, end_after}
 use Rattle.statement.specs.Statements.{by_end, statements_on}
-use Rattle.listing.specs.declared.walk.Walk.{Walk}
 use Rattle.listing.specs.Lines.{token_bytes, end_bytes, total_bytes}
 use Rattle.lexer.specs.Cut.{lengths}
 use Rattle.lexer.specs.Laws.{NoneEmpty}
 use Rattle.listing.specs.Listed.{token_lines, statement_lines, listed}
-use Rattle.listing.specs.Walk.{at_front, end_there, past, lines_of_end, total_line}
+use Rattle.listing.specs.Walk.{Walked, at_front, end_there, past, lines_of_end, total_line}
 use Rattle.listing.proofs.Walks.{walked, lines_on, place-past, place-walked}
 
 -- the tokens to come cover the rest of the text
-record Covers (size : ℕ) (w : Walk) (ts : List Token) : Type 0 where
+record Covers (size : ℕ) (w : Walked) (ts : List Token) : Type 0 where
   whole : w.place + lengths ts ≡ size
   none_empty : NoneEmpty ts
 
-covers_more : (size : ℕ) (w : Walk) (t : Token) (ts : List Token) (end : Option Cause) → Covers size w (t ∷ ts) → Covers size (past w t end) ts
+covers_more : (size : ℕ) (w : Walked) (t : Token) (ts : List Token) (end : Option Cause) → Covers size w (t ∷ ts) → Covers size (past w t end) ts
 covers_more size w t ts end c =
     record { whole = omega (arith, place-past w t end, c.whole); none_empty = c.none_empty.1 }
 
 -- a token ends where the text does exactly if none comes after it
-last_there : (size : ℕ) (w : Walk) (t : Token) (ts : List Token) → Covers size w (t ∷ ts) → eqb (w.place + t.len) size ≡ eqb (length ts) 0
+last_there : (size : ℕ) (w : Walked) (t : Token) (ts : List Token) → Covers size w (t ∷ ts) → eqb (w.place + t.len) size ≡ eqb (length ts) 0
 last_there size w t [] c = eq-eqb (w.place + t.len) size (omega (arith, c.whole))
 last_there size w t (u ∷ us) c =
     ne_eqb (w.place + t.len) size (λ e. omega (arith, c.whole, c.none_empty.1.0)) ∙ sym (ne_eqb (suc (length us)) 0 (λ e. omega arith))
 
 -- the end that stands after the next token
-abbrev next_end : Walk → Token → List Token → Option Cause
-next_end w t ts = end_after w.rule.depth t (eqb (length ts) 0)
+abbrev next_end : Walked → Token → List Token → Option Cause
+next_end w t ts = end_after w.rule t (eqb (length ts) 0)
 
-end_same : (size : ℕ) (w : Walk) (t : Token) (ts : List Token) → Covers size w (t ∷ ts) → end_there size w t ≡ next_end w t ts
-end_same size w t ts c = ap (end_after w.rule.depth t) (last_there size w t ts c)
+end_same : (size : ℕ) (w : Walked) (t : Token) (ts : List Token) → Covers size w (t ∷ ts) → end_there size w t ≡ next_end w t ts
+end_same size w t ts c = ap (end_after w.rule t) (last_there size w t ts c)
 
 -- the statements of the tokens to come
-abbrev ahead : Walk → List Token → List Statement
-ahead w ts = statements_on w.rule.depth w.passed w.solid ts
+abbrev ahead : Walked → List Token → List Statement
+ahead w ts = statements_on w.rule w.passed w.solid ts
 
 -- the ends are counted
-ends-walked : (size : ℕ) (ts : List Token) (w : Walk) → Covers size w ts → (walked size w ts).ends ≡ w.ends + length (ahead w ts)
+ends-walked : (size : ℕ) (ts : List Token) (w : Walked) → Covers size w ts → (walked size w ts).ends ≡ w.ends + length (ahead w ts)
 ends-walked size [] w c = omega arith
 ends-walked size (t ∷ ts) w c =
     ap (λ e. (walked size (past w t e) ts).ends) (end_same size w t ts c)
@@ -50,11 +49,11 @@ ends-walked size (t ∷ ts) w c =
       | Some cause ↦ omega (arith, ends-walked size ts (past w t (Some cause)) (covers_more size w t ts (Some cause) c))
     ])
 
-tokens-past : (w : Walk) (t : Token) (end : Option Cause) → (past w t end).tokens ≡ w.tokens + 1
+tokens-past : (w : Walked) (t : Token) (end : Option Cause) → (past w t end).tokens ≡ w.tokens + 1
 tokens-past w t None = refl
 tokens-past w t (Some cause) = refl
 
-tokens-walked : (size : ℕ) (ts : List Token) (w : Walk) → (walked size w ts).tokens ≡ w.tokens + length ts
+tokens-walked : (size : ℕ) (ts : List Token) (w : Walked) → (walked size w ts).tokens ≡ w.tokens + length ts
 tokens-walked size [] w = omega arith
 tokens-walked size (t ∷ ts) w =
     omega (arith, tokens-walked size ts (past w t (end_there size w t)), tokens-past w t (end_there size w t))
@@ -66,7 +65,7 @@ piece start place k ts s ss =
     ++ (end_bytes (record { start = start; len = place + lengths (take k ts) - start; cause = s.cause; tokens = s.tokens; solid = s.solid })
     ++ statement_lines (place + lengths (take k ts)) (drop k ts) ss)
 
-abbrev lines_ahead : Walk → List Token → List Statement → List ℕ
+abbrev lines_ahead : Walked → List Token → List Statement → List ℕ
 lines_ahead w ts [] = []
 lines_ahead w ts (s ∷ ss) = piece w.start w.place (s.tokens - w.passed) ts s ss
 
@@ -88,7 +87,7 @@ module _ (start place : ℕ) (t : Token) (ts : List Token) (s : Statement) (ss :
       ∙ ap (λ n. line ++ after_tokens (token_lines (place + t.len) (take k ts)) n k) (let e : place + (t.len + lengths (take k ts)) ≡ place + t.len + lengths (take k ts) = omega arith in e)
 
 -- a statement of which no token was passed
-lines_fresh : (place : ℕ) (ts : List Token) (w : Walk) (ss : List Statement) → w.passed ≡ 0 → w.start ≡ place → w.place ≡ place → lines_ahead w ts ss ≡ statement_lines place ts ss
+lines_fresh : (place : ℕ) (ts : List Token) (w : Walked) (ss : List Statement) → w.passed ≡ 0 → w.start ≡ place → w.place ≡ place → lines_ahead w ts ss ≡ statement_lines place ts ss
 lines_fresh place ts w [] none start here = refl
 lines_fresh place ts w (s ∷ ss) none start here =
     let k : s.tokens - w.passed ≡ s.tokens = omega arith in
@@ -114,7 +113,7 @@ some_ahead d p m t (u ∷ us) =
       | Some cause ↦ record { first = _; rest = _; is = refl; more = omega arith }
     ]
 
-module _ (w : Walk) (t : Token) (ts : List Token) where
+module _ (w : Walked) (t : Token) (ts : List Token) where
   abbrev own_line : List ℕ
   own_line = token_bytes (record { place = w.place; token = t })
 
@@ -134,16 +133,16 @@ module _ (w : Walk) (t : Token) (ts : List Token) where
       ∙ piece_more w.start w.place t ts s ss 0
       ∙ ap (λ n. own_line ++ (end_bytes (record { start = w.start; len = n - w.start; cause = cause; tokens = w.passed + 1; solid = w.solid + cond (solid t) 1 0 }) ++ statement_lines n ts ss)) n
 
-goes_on_lines : (w : Walk) (t : Token) (ts : List Token) → next_end w t ts ≡ None → lines_ahead w (t ∷ ts) (ahead (past w t None) ts) ≡ token_bytes (record { place = w.place; token = t }) ++ lines_ahead (past w t None) ts (ahead (past w t None) ts)
+goes_on_lines : (w : Walked) (t : Token) (ts : List Token) → next_end w t ts ≡ None → lines_ahead w (t ∷ ts) (ahead (past w t None) ts) ≡ token_bytes (record { place = w.place; token = t }) ++ lines_ahead (past w t None) ts (ahead (past w t None) ts)
 goes_on_lines w t [] q = let z : ◌≡◌ {A = ℕ} 0 1 = cc in absurd (omega arith)
 goes_on_lines w t (u ∷ us) q =
     let v = past w t None in
-    let x = some_ahead v.rule.depth v.passed v.solid u us in
+    let x = some_ahead v.rule v.passed v.solid u us in
     ap (lines_ahead w (t ∷ u ∷ us)) x.is
     ∙ goes_on w t (u ∷ us) x.first x.rest x.more
     ∙ ap (λ l. token_bytes (record { place = w.place; token = t }) ++ lines_ahead v (u ∷ us) l) (sym x.is)
 
-lines_are : (size : ℕ) (ts : List Token) (w : Walk) → Covers size w ts → lines_on size w ts ≡ lines_ahead w ts (ahead w ts)
+lines_are : (size : ℕ) (ts : List Token) (w : Walked) → Covers size w ts → lines_on size w ts ≡ lines_ahead w ts (ahead w ts)
 lines_are size [] w c = refl
 lines_are size (t ∷ ts) w c =
     let line = token_bytes (record { place = w.place; token = t }) in

@@ -1,51 +1,29 @@
 -- What a walk writes, one token more.
-use Rattle.std.proofs.Common.{◌≡◌, ℕ, ◌+◌, ◌<◌, ◌≤◌, true, false, cond, List, [], ◌∷◌, ◌++◌, Some, None, Option, sym, refl, ap, ◌∙◌, append_assoc, append-nil, arith}
-use Rattle.std.specs.Option.{option_map}
+use Rattle.std.proofs.Common.{◌≡◌, ℕ, ◌+◌, ◌<◌, List, [], ◌∷◌, ◌++◌, Some, None, Option, sym, refl, ap, ◌∙◌, append_assoc, append-nil, arith}
 use Rattle.lexer.specs.declared.token.Token.{Token}
 use Rattle.statement.specs.declared.Cause.{Cause}
-use Rattle.statement.specs.Ends.{solid}
-use Rattle.listing.specs.declared.lines.EndLine.{EndLine}
-use Rattle.listing.specs.declared.walk.Walk.{Walk}
-use Rattle.listing.specs.Lines.{end_bytes, total_bytes}
-use Rattle.listing.specs.Walk.{Within, at_front, end_line, end_there, past, lines_of_end, lines_of_token, total_line}
+use Rattle.listing.specs.Lines.{total_bytes}
+use Rattle.listing.specs.Walk.{Walked, at_front, end_there, past, lines_of_token, total_line}
 use Rattle.lexer.proofs.Readings.{Reads}
 use Rattle.lexer.specs.Cut.{lengths}
 use Rattle.lexer.specs.Laws.{NoneEmpty}
 use Rattle.lexer.specs.Lex.{token_at}
 
--- one piece of writing after another
-pub written_twice : (before mid after a b c : List ℕ) → mid ≡ before ++ a → after ≡ mid ++ b → b ≡ c → after ≡ before ++ (a ++ c)
-written_twice before mid after a b c first second same =
-    second ∙ ap (λ l. l ++ b) first ∙ append_assoc before a b ∙ ap (λ l. before ++ (a ++ l)) same
-
--- the line of an end, where a statement ends
-pub lines_of_end_some : (w : Walk) (t : Token) (end : Option Cause) (l : EndLine) → option_map (end_line w t) end ≡ Some l → lines_of_end w t end ≡ end_bytes l
-lines_of_end_some w t None l e = let z : ◌≡◌ {A = ℕ} 0 1 = cc in absurd (omega arith)
-lines_of_end_some w t (Some cause) l e = let same : end_line w t cause ≡ l = cc in ap end_bytes same
-
--- the numbers stay within the bytes passed
-pub within_past : (w : Walk) (t : Token) (end : Option Cause) → 0 < t.len → Within w → Within (past w t end)
-within_past w t None h b =
-    let one : cond (solid t) 1 0 ≤ 1 = elim (solid t) as (λ b. cond b 1 0 ≤ 1) [ true ↦ omega arith | false ↦ omega arith ] in
-    record { start = omega arith; tokens = omega arith; ends = omega arith; passed = omega arith; solid = omega arith }
-within_past w t (Some cause) h b =
-    record { start = omega arith; tokens = omega arith; ends = omega arith; passed = omega arith; solid = omega arith }
-
 -- a walk over a list of tokens, and the lines that it writes before the total
-abbrev pub walked : ℕ → Walk → List Token → Walk
+abbrev pub walked : ℕ → Walked → List Token → Walked
 walked size w [] = w
 walked size w (t ∷ ts) = walked size (past w t (end_there size w t)) ts
 
-abbrev pub lines_on : ℕ → Walk → List Token → List ℕ
+abbrev pub lines_on : ℕ → Walked → List Token → List ℕ
 lines_on size w [] = []
 lines_on size w (t ∷ ts) = lines_of_token size w t ++ lines_on size (past w t (end_there size w t)) ts
 
 module _ (size : ℕ) where
-  pub walked_push : (w : Walk) (ts : List Token) (t : Token) → walked size w (ts ++ t ∷ []) ≡ past (walked size w ts) t (end_there size (walked size w ts) t)
+  pub walked_push : (w : Walked) (ts : List Token) (t : Token) → walked size w (ts ++ t ∷ []) ≡ past (walked size w ts) t (end_there size (walked size w ts) t)
   walked_push w [] t = refl
   walked_push w (u ∷ ts) t = walked_push (past w u (end_there size w u)) ts t
 
-  pub lines_push : (w : Walk) (ts : List Token) (t : Token) → lines_on size w (ts ++ t ∷ []) ≡ lines_on size w ts ++ lines_of_token size (walked size w ts) t
+  pub lines_push : (w : Walked) (ts : List Token) (t : Token) → lines_on size w (ts ++ t ∷ []) ≡ lines_on size w ts ++ lines_of_token size (walked size w ts) t
   lines_push w [] t = append-nil (lines_of_token size w t)
   lines_push w (u ∷ ts) t =
       ap (λ l. lines_of_token size w u ++ l) (lines_push (past w u (end_there size w u)) ts t)
@@ -59,12 +37,12 @@ pub none_empty_push : (ts : List Token) (t : Token) → NoneEmpty ts → 0 < t.l
 none_empty_push [] t h p = (p, tt)
 none_empty_push (u ∷ ts) t h p = (h.0, none_empty_push ts t h.1 p)
 
-pub place-past : (w : Walk) (t : Token) (end : Option Cause) → (past w t end).place ≡ w.place + t.len
+pub place-past : (w : Walked) (t : Token) (end : Option Cause) → (past w t end).place ≡ w.place + t.len
 place-past w t None = refl
 place-past w t (Some cause) = refl
 
 -- a walk has passed the bytes of its tokens
-pub place-walked : (size : ℕ) (w : Walk) (ts : List Token) → (walked size w ts).place ≡ w.place + lengths ts
+pub place-walked : (size : ℕ) (w : Walked) (ts : List Token) → (walked size w ts).place ≡ w.place + lengths ts
 place-walked size w [] = omega arith
 place-walked size w (t ∷ ts) =
     omega (arith, place-walked size (past w t (end_there size w t)) ts, place-past w t (end_there size w t))
@@ -75,7 +53,7 @@ reads_push bs place (u ∷ ts) t r there =
     (r.0, reads_push bs (place + u.len) ts t r.1 (ap (token_at bs) (let e : place + u.len + lengths ts ≡ place + (u.len + lengths ts) = omega arith in e) ∙ there))
 
 -- a walk has passed some tokens, and their lines are written
-pub record Walking (bs : List ℕ) (size : ℕ) (w : Walk) (out : List ℕ) : Type 0 where
+pub record Walking (bs : List ℕ) (size : ℕ) (w : Walked) (out : List ℕ) : Type 0 where
   pub tokens : List Token
   pub reads : Reads bs 0 tokens
   pub none_empty : NoneEmpty tokens
@@ -85,11 +63,11 @@ pub record Walking (bs : List ℕ) (size : ℕ) (w : Walk) (out : List ℕ) : Ty
 pub walking_none : (bs : List ℕ) (size : ℕ) → Walking bs size at_front []
 walking_none bs size = record { tokens = []; reads = tt; none_empty = tt; walk = refl; lines = refl }
 
-module _ (bs : List ℕ) (size : ℕ) (w : Walk) (out : List ℕ) (so : Walking bs size w out) where
+module _ (bs : List ℕ) (size : ℕ) (w : Walked) (out : List ℕ) (so : Walking bs size w out) where
   passed : w.place ≡ lengths so.tokens
   passed = omega (arith, ap (λ u. u.place) so.walk, place-walked size at_front so.tokens)
 
-  pub walking_more : (v : Walk) (more : List ℕ) (t : Token) → token_at bs w.place ≡ Some t → 0 < t.len → v ≡ past w t (end_there size w t) → more ≡ out ++ lines_of_token size w t → Walking bs size v more
+  pub walking_more : (v : Walked) (more : List ℕ) (t : Token) → token_at bs w.place ≡ Some t → 0 < t.len → v ≡ past w t (end_there size w t) → more ≡ out ++ lines_of_token size w t → Walking bs size v more
   walking_more v more t there some onward written =
       record {
         tokens = so.tokens ++ t ∷ [];

@@ -1,11 +1,11 @@
 -- The lines that the program writes, byte by byte.
 use Rattle.std.specs.Prelude.{ℕ, List, [], ◌∷◌, ◌++◌, codes, decimal}
+use Rattle.text.specs.declared.fault.Fault.{Fault}
 use Rattle.statement.specs.Causes.{cause_number}
 use Rattle.listing.specs.declared.lines.EndLine.{EndLine}
-use Rattle.listing.specs.declared.lines.RefusedLine.{RefusedLine}
 use Rattle.listing.specs.declared.lines.TokenLine.{TokenLine}
 use Rattle.listing.specs.declared.lines.TotalLine.{TotalLine}
-use Rattle.listing.specs.Kinds.{kind_name, kind_fields, fields_bytes}
+use Rattle.listing.specs.Kinds.{kind_bytes}
 
 -- words with a blank between them, and a line end
 abbrev pub line : List (List ℕ) → List ℕ
@@ -16,7 +16,7 @@ line (word ∷ next ∷ words) = word ++ (codes " " ++ line (next ∷ words))
 -- token PLACE LENGTH KIND FIELDS..
 abbrev pub token_bytes : TokenLine → List ℕ
 token_bytes l =
-    line (codes "token" ∷ decimal l.place ∷ decimal l.token.len ∷ (kind_name l.token.kind ++ fields_bytes (kind_fields l.token.kind)) ∷ [])
+    line (codes "token" ∷ decimal l.place ∷ decimal l.token.len ∷ kind_bytes l.token.kind ∷ [])
 
 -- end START LENGTH CAUSE TOKENS SOLID
 abbrev pub end_bytes : EndLine → List ℕ
@@ -28,5 +28,8 @@ abbrev pub total_bytes : TotalLine → List ℕ
 total_bytes l = line (codes "total" ∷ decimal l.bytes ∷ decimal l.tokens ∷ decimal l.ends ∷ [])
 
 -- refused NUMBER PLACE
-abbrev pub refused_bytes : RefusedLine → List ℕ
-refused_bytes l = line (codes "refused" ∷ decimal l.number ∷ decimal l.place ∷ [])
+abbrev pub refused_words : Fault → List ℕ
+refused_words fault = codes "refused " ++ decimal fault.number ++ codes " " ++ decimal fault.place
+
+abbrev pub refused_bytes : Fault → List ℕ
+refused_bytes fault = refused_words fault ++ (10 ∷ [])

@@ -1,5 +1,5 @@
 -- What the program writes for an input.
-use Rattle.std.specs.Prelude.{◌≡◌, ℕ, ◌+◌, true, false, if◌then◌else◌, List, [], ◌∷◌, ◌++◌, length, take, drop, Ok, Err, string_bytes, Result, nat_lt}
+use Rattle.std.specs.Prelude.{◌≡◌, ℕ, ◌+◌, if◌then◌else◌, List, [], ◌∷◌, ◌++◌, length, take, drop, Ok, Err, string_bytes, Result, nat_lt}
 use Rattle.text.specs.Fit.{checked}
 use Rattle.text.specs.declared.fault.TextFault.{TextFault}
 use Rattle.lexer.specs.Cut.{cut, lengths}
@@ -8,6 +8,7 @@ use Rattle.statement.specs.declared.Statement.{Statement}
 use Rattle.statement.specs.Ends.{first_state}
 use Rattle.statement.specs.Statements.{statements}
 use Rattle.listing.specs.declared.Listing.{Listing}
+use Rattle.listing.specs.declared.Listing.TheVariants.{Listed, Refused}
 use Rattle.listing.specs.declared.fault.ProgramFault.{ProgramFault}
 use Rattle.listing.specs.declared.fault.ProgramFault.TheVariants.{InText, InputTooLong}
 use Rattle.listing.specs.Faults.{longest_input, program_fault}
@@ -33,20 +34,17 @@ listed ts =
     let ss = statements first_state ts in
     statement_lines 0 ts ss ++ total_bytes (record { bytes = lengths ts; tokens = length ts; ends = length ss })
 
--- a refusal is the one line that tells the fault
-pub record Refuses (fault : ProgramFault) (l : Listing) : Type 0 where
-  pub refused : l.refused ≡ true
-  pub line : string_bytes l.lines ≡ refused_bytes (record { number = (program_fault fault).number; place = (program_fault fault).place })
+-- what is written, whichever it is
+abbrev pub text_of : Listing → List ℕ
+text_of (Listed lines) = string_bytes lines
+text_of (Refused line) = string_bytes line
 
--- the lines of a text are those of its cut
-pub record Lists (bs : List ℕ) (l : Listing) : Type 0 where
-  pub refused : l.refused ≡ false
-  pub lines : string_bytes l.lines ≡ listed (cut bs)
-
--- a text is listed if it is fit, and else refused
+-- a fit text is listed by the lines of its cut, and another is refused by the one line that tells the fault
 abbrev pub Answers : List ℕ → Result (Unit {0}) ProgramFault → Listing → Type 0
-Answers bs (Ok done) l = Lists bs l
-Answers bs (Err fault) l = Refuses fault l
+Answers bs (Ok done) (Listed lines) = string_bytes lines ≡ listed (cut bs)
+Answers bs (Ok done) (Refused line) = ⊥
+Answers bs (Err fault) (Listed lines) = ⊥
+Answers bs (Err fault) (Refused line) = string_bytes line ≡ refused_bytes (program_fault fault)
 
 -- a text's fault is one of the program's
 abbrev pub in_text : Result (Unit {0}) TextFault → Result (Unit {0}) ProgramFault

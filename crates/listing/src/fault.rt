@@ -2,8 +2,10 @@
 
 ghost use Rattle.listing.specs.Faults.{program_fault};
 ghost use Rattle.listing.specs.declared.fault.ProgramFault.TheVariants.{InText};
-ghost use Rattle.std.specs.Prelude.{◌≡◌};
+ghost use Rattle.listing.specs.Lines.{refused_words};
+ghost use Rattle.std.specs.Prelude.{◌≡◌, Some};
 
+use std::fmt;
 use text::{Fault, Layer, TextFault};
 
 /// The longest input that the program lists, in bytes.
@@ -39,5 +41,14 @@ impl ProgramFault {
                 layer: Layer::Program,
             },
         }
+    }
+}
+
+impl fmt::Display for ProgramFault {
+    ghost output = { λ x. Some (refused_words (program_fault x)) };
+
+    fn fmt<W: fmt::Write>(&self, f: &mut fmt::Formatter<W>) -> fmt::Result {
+        let Fault { number, place, .. } = self.fault();
+        write!(f, "refused {number} {place}")
     }
 }

@@ -1,203 +1,131 @@
-//! The kinds of tokens as words: their names and their fields.
+//! The kinds of tokens as a line shows them.
 
-ghost use Rattle.listing.specs.Kinds.{kind_name, literal_name, field_bytes, kind_fields, literal_fields, if_there, three_fields, two_fields, one_field, no_fields, fields_bytes};
-ghost use Rattle.std.specs.Prelude.{◌≡◌, Some};
+ghost use Rattle.listing.specs.Kinds.{kind_bytes, literal_bytes};
+ghost use Rattle.std.specs.Prelude.{Some};
 
 use lexer::token::{LiteralKind, TokenKind};
 use std::fmt;
 
-/// A field of a token's kind, as a line shows it.
+/// A token's kind: its name, and its fields in the order of their declaration, yes as 1, no as 0 and a number that is
+/// not there as `-`. A literal goes by its own kind.
 #[derive(Clone, Copy)]
-pub(crate) enum Field {
-    /// The kind has no such field.
-    Nothing,
-    /// A number that is not there.
-    Absent,
-    Flag(bool),
-    Number(u32),
+pub(crate) struct Shown {
+    pub(crate) kind: TokenKind,
 }
 
-/// The fields of a kind, in the order of their declaration.
+/// A literal's kind, as `Shown`.
 #[derive(Clone, Copy)]
-pub(crate) struct Fields {
-    first: Field,
-    second: Field,
-    third: Field,
+struct ShownLiteral {
+    kind: LiteralKind,
 }
 
-impl fmt::Display for Field {
-    ghost output = { λ x. Some (field_bytes x) };
+impl fmt::Display for ShownLiteral {
+    ghost output = { λ x. Some (literal_bytes x.kind) };
 
     fn fmt<W: fmt::Write>(&self, f: &mut fmt::Formatter<W>) -> fmt::Result {
-        match *self {
-            Field::Nothing => f.write_str(""),
-            Field::Absent => f.write_str(" -"),
-            Field::Flag(true) => f.write_str(" 1"),
-            Field::Flag(false) => f.write_str(" 0"),
-            Field::Number(n) => write!(f, " {n}"),
+        match self.kind {
+            LiteralKind::Int {
+                base,
+                empty_int,
+                trailing_junk_start,
+            } => write!(
+                f,
+                "Int {} {} {trailing_junk_start}",
+                base.number(),
+                u8::from(empty_int)
+            ),
+            LiteralKind::Numeric {
+                empty_exponent_start: Some(start),
+                trailing_junk_start,
+            } => write!(f, "Numeric {start} {trailing_junk_start}"),
+            LiteralKind::Numeric {
+                empty_exponent_start: None,
+                trailing_junk_start,
+            } => write!(f, "Numeric - {trailing_junk_start}"),
+            LiteralKind::Str { terminated } => write!(f, "Str {}", u8::from(terminated)),
+            LiteralKind::NationalStr { terminated } => write!(
+                f,
+                "NationalStr {}",
+                u8::from(terminated)
+            ),
+            LiteralKind::ByteStr { terminated } => write!(f, "ByteStr {}", u8::from(terminated)),
+            LiteralKind::BitStr { terminated } => write!(f, "BitStr {}", u8::from(terminated)),
+            LiteralKind::DollarQuotedString { terminated } => write!(
+                f,
+                "DollarQuotedString {}",
+                u8::from(terminated)
+            ),
+            LiteralKind::UnicodeEscStr { terminated } => write!(
+                f,
+                "UnicodeEscStr {}",
+                u8::from(terminated)
+            ),
+            LiteralKind::EscStr { terminated } => write!(f, "EscStr {}", u8::from(terminated)),
         }
     }
 }
 
-/// The name of a literal's kind.
-fn literal_name(kind: LiteralKind) -> &'static str
-    ensures { result.now ≡ literal_name kind }
-{
-    match kind {
-        LiteralKind::Int { .. } => "Int",
-        LiteralKind::Numeric { .. } => "Numeric",
-        LiteralKind::Str { .. } => "Str",
-        LiteralKind::NationalStr { .. } => "NationalStr",
-        LiteralKind::ByteStr { .. } => "ByteStr",
-        LiteralKind::BitStr { .. } => "BitStr",
-        LiteralKind::DollarQuotedString { .. } => "DollarQuotedString",
-        LiteralKind::UnicodeEscStr { .. } => "UnicodeEscStr",
-        LiteralKind::EscStr { .. } => "EscStr",
-    }
-}
-
-/// The name of a token's kind; a literal goes by its own kind.
-pub(crate) fn kind_name(kind: TokenKind) -> &'static str
-    ensures { result.now ≡ kind_name kind }
-{
-    match kind {
-        TokenKind::Unknown => "Unknown",
-        TokenKind::Literal { kind } => literal_name(kind),
-        TokenKind::Whitespace => "Whitespace",
-        TokenKind::Ident => "Ident",
-        TokenKind::PsqlCommand { .. } => "PsqlCommand",
-        TokenKind::Semi => "Semi",
-        TokenKind::Eof => "Eof",
-        TokenKind::Slash => "Slash",
-        TokenKind::LineComment => "LineComment",
-        TokenKind::BlockComment { .. } => "BlockComment",
-        TokenKind::Minus => "Minus",
-        TokenKind::Colon => "Colon",
-        TokenKind::Dot => "Dot",
-        TokenKind::DotDot => "DotDot",
-        TokenKind::Eq => "Eq",
-        TokenKind::Gt => "Gt",
-        TokenKind::And => "And",
-        TokenKind::Lt => "Lt",
-        TokenKind::Bang => "Bang",
-        TokenKind::Plus => "Plus",
-        TokenKind::Tilde => "Tilde",
-        TokenKind::Pound => "Pound",
-        TokenKind::Question => "Question",
-        TokenKind::Or => "Or",
-        TokenKind::Percent => "Percent",
-        TokenKind::Caret => "Caret",
-        TokenKind::Star => "Star",
-        TokenKind::Backtick => "Backtick",
-        TokenKind::At => "At",
-        TokenKind::CloseBracket => "CloseBracket",
-        TokenKind::OpenBracket => "OpenBracket",
-        TokenKind::CloseCurly => "CloseCurly",
-        TokenKind::OpenCurly => "OpenCurly",
-        TokenKind::CloseParen => "CloseParen",
-        TokenKind::OpenParen => "OpenParen",
-        TokenKind::Comma => "Comma",
-        TokenKind::PositionalParam { .. } => "PositionalParam",
-        TokenKind::QuotedIdent { .. } => "QuotedIdent",
-    }
-}
-
-fn three_fields(first: Field, second: Field, third: Field) -> Fields
-    ensures { result ≡ three_fields first second third }
-{
-    Fields {
-        first,
-        second,
-        third,
-    }
-}
-
-fn two_fields(first: Field, second: Field) -> Fields
-    ensures { result ≡ two_fields first second }
-{
-    three_fields(first, second, Field::Nothing)
-}
-
-fn one_field(field: Field) -> Fields
-    ensures { result ≡ one_field field }
-{
-    two_fields(field, Field::Nothing)
-}
-
-fn no_fields() -> Fields
-    ensures { result ≡ no_fields }
-{
-    one_field(Field::Nothing)
-}
-
-fn if_there(number: Option<u32>) -> Field
-    ensures { result ≡ if_there number }
-{
-    match number {
-        None => Field::Absent,
-        Some(n) => Field::Number(n),
-    }
-}
-
-fn literal_fields(kind: LiteralKind) -> Fields
-    ensures { result ≡ literal_fields kind }
-{
-    match kind {
-        LiteralKind::Int {
-            base,
-            empty_int,
-            trailing_junk_start,
-        } => three_fields(
-            Field::Number(u32::from(base.number())),
-            Field::Flag(empty_int),
-            Field::Number(trailing_junk_start),
-        ),
-        LiteralKind::Numeric {
-            empty_exponent_start,
-            trailing_junk_start,
-        } => {
-            two_fields(
-                if_there(empty_exponent_start),
-                Field::Number(trailing_junk_start),
-            )
-        }
-        LiteralKind::Str { terminated }
-        | LiteralKind::NationalStr { terminated }
-        | LiteralKind::ByteStr { terminated }
-        | LiteralKind::BitStr { terminated }
-        | LiteralKind::DollarQuotedString { terminated }
-        | LiteralKind::UnicodeEscStr { terminated }
-        | LiteralKind::EscStr { terminated } => one_field(Field::Flag(terminated)),
-    }
-}
-
-pub(crate) fn kind_fields(kind: TokenKind) -> Fields
-    ensures { result ≡ kind_fields kind }
-{
-    match kind {
-        TokenKind::Literal { kind } => literal_fields(kind),
-        TokenKind::PsqlCommand { ends_query } => one_field(Field::Flag(ends_query)),
-        TokenKind::BlockComment { terminated } => one_field(Field::Flag(terminated)),
-        TokenKind::PositionalParam {
-            trailing_junk_start,
-        } => { one_field(Field::Number(trailing_junk_start)) }
-        TokenKind::QuotedIdent {
-            terminated,
-            uescape,
-        } => { two_fields(Field::Flag(terminated), Field::Flag(uescape)) }
-        _ => no_fields(),
-    }
-}
-
-impl fmt::Display for Fields {
-    ghost output = { λ x. Some (fields_bytes x) };
+impl fmt::Display for Shown {
+    ghost output = { λ x. Some (kind_bytes x.kind) };
 
     fn fmt<W: fmt::Write>(&self, f: &mut fmt::Formatter<W>) -> fmt::Result {
-        let Fields {
-            first,
-            second,
-            third,
-        } = *self;
-        write!(f, "{first}{second}{third}")
+        match self.kind {
+            TokenKind::Unknown => f.write_str("Unknown"),
+            TokenKind::Literal { kind } => write!(f, "{}", ShownLiteral { kind }),
+            TokenKind::Whitespace => f.write_str("Whitespace"),
+            TokenKind::Ident => f.write_str("Ident"),
+            TokenKind::PsqlCommand { ends_query } => write!(
+                f,
+                "PsqlCommand {}",
+                u8::from(ends_query)
+            ),
+            TokenKind::Semi => f.write_str("Semi"),
+            TokenKind::Eof => f.write_str("Eof"),
+            TokenKind::Slash => f.write_str("Slash"),
+            TokenKind::LineComment => f.write_str("LineComment"),
+            TokenKind::BlockComment { terminated } => write!(
+                f,
+                "BlockComment {}",
+                u8::from(terminated)
+            ),
+            TokenKind::Minus => f.write_str("Minus"),
+            TokenKind::Colon => f.write_str("Colon"),
+            TokenKind::Dot => f.write_str("Dot"),
+            TokenKind::DotDot => f.write_str("DotDot"),
+            TokenKind::Eq => f.write_str("Eq"),
+            TokenKind::Gt => f.write_str("Gt"),
+            TokenKind::And => f.write_str("And"),
+            TokenKind::Lt => f.write_str("Lt"),
+            TokenKind::Bang => f.write_str("Bang"),
+            TokenKind::Plus => f.write_str("Plus"),
+            TokenKind::Tilde => f.write_str("Tilde"),
+            TokenKind::Pound => f.write_str("Pound"),
+            TokenKind::Question => f.write_str("Question"),
+            TokenKind::Or => f.write_str("Or"),
+            TokenKind::Percent => f.write_str("Percent"),
+            TokenKind::Caret => f.write_str("Caret"),
+            TokenKind::Star => f.write_str("Star"),
+            TokenKind::Backtick => f.write_str("Backtick"),
+            TokenKind::At => f.write_str("At"),
+            TokenKind::CloseBracket => f.write_str("CloseBracket"),
+            TokenKind::OpenBracket => f.write_str("OpenBracket"),
+            TokenKind::CloseCurly => f.write_str("CloseCurly"),
+            TokenKind::OpenCurly => f.write_str("OpenCurly"),
+            TokenKind::CloseParen => f.write_str("CloseParen"),
+            TokenKind::OpenParen => f.write_str("OpenParen"),
+            TokenKind::Comma => f.write_str("Comma"),
+            TokenKind::PositionalParam {
+                trailing_junk_start,
+            } => write!(f, "PositionalParam {trailing_junk_start}"),
+            TokenKind::QuotedIdent {
+                terminated,
+                uescape,
+            } => write!(
+                f,
+                "QuotedIdent {} {}",
+                u8::from(terminated),
+                u8::from(uescape)
+            ),
+        }
     }
 }

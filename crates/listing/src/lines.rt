@@ -1,9 +1,9 @@
 //! The lines that the program writes.
 
-ghost use Rattle.listing.specs.Lines.{token_bytes, end_bytes, total_bytes, refused_bytes};
+ghost use Rattle.listing.specs.Lines.{token_bytes, end_bytes, total_bytes};
 ghost use Rattle.std.specs.Prelude.{Some};
 
-use crate::kinds::{kind_fields, kind_name};
+use crate::kinds::Shown;
 use lexer::token::Token;
 use statement::Cause;
 use std::fmt;
@@ -21,9 +21,10 @@ impl fmt::Display for TokenLine {
     fn fmt<W: fmt::Write>(&self, f: &mut fmt::Formatter<W>) -> fmt::Result {
         let place = self.place;
         let len = self.token.len;
-        let name = kind_name(self.token.kind);
-        let fields = kind_fields(self.token.kind);
-        write!(f, "token {place} {len} {name}{fields}\n")
+        let kind = Shown {
+            kind: self.token.kind,
+        };
+        writeln!(f, "token {place} {len} {kind}")
     }
 }
 
@@ -49,7 +50,7 @@ impl fmt::Display for EndLine {
             solid,
         } = *self;
         let number = cause.number();
-        write!(f, "end {start} {len} {number} {tokens} {solid}\n")
+        writeln!(f, "end {start} {len} {number} {tokens} {solid}")
     }
 }
 
@@ -70,22 +71,6 @@ impl fmt::Display for TotalLine {
             tokens,
             ends,
         } = *self;
-        write!(f, "total {bytes} {tokens} {ends}\n")
-    }
-}
-
-/// A fault: its number and place.
-#[derive(Clone, Copy)]
-pub struct RefusedLine {
-    pub number: u8,
-    pub place: u32,
-}
-
-impl fmt::Display for RefusedLine {
-    ghost output = { λ x. Some (refused_bytes x) };
-
-    fn fmt<W: fmt::Write>(&self, f: &mut fmt::Formatter<W>) -> fmt::Result {
-        let RefusedLine { number, place } = *self;
-        write!(f, "refused {number} {place}\n")
+        writeln!(f, "total {bytes} {tokens} {ends}")
     }
 }

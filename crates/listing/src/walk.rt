@@ -1,25 +1,36 @@
 //! A walk over the tokens of a text, which counts what the lines tell.
 
 ghost use Rattle.std.specs.Prelude.{◌≡◌, ℕ, ◌+◌, ◌^◌, ◌<◌};
-ghost use Rattle.listing.specs.Walk.{Within, at_front, end_line, past, total_line};
+ghost use Rattle.listing.specs.Walk.{at_front, end_line, past, total_line};
 ghost use Rattle.statement.specs.Ends.{end_after};
 ghost use Rattle.std.specs.Option.{option_map};
 
 use crate::lines::{EndLine, TotalLine};
 use lexer::token::Token;
 use statement::{Ends, is_solid};
+use std::marker::Model;
 
 /// Where a walk stands: its place, the tokens and ends passed, the rule of ends, and of the statement that is
 /// open its start, its tokens and its solid ones.
-#[derive(Clone, Copy)]
+#[derive(Drop)]
 pub(crate) struct Walk {
-    pub(crate) place: u32,
+    place: u32,
     tokens: u32,
     ends: u32,
     rule: Ends,
     start: u32,
     passed: u32,
     solid: u32,
+}
+
+impl Model for Walk {
+    ghost use Rattle.listing.specs.Walk.{Walked, Within, walked_of};
+
+    ghost Value = { Walked };
+
+    ghost view = { λ w. walked_of w.place w.tokens w.ends w.rule w.start w.passed w.solid };
+
+    ghost invariant = { λ w. Within (walked_of w.place w.tokens w.ends w.rule w.start w.passed w.solid) };
 }
 
 impl Walk {
@@ -37,13 +48,19 @@ impl Walk {
         }
     }
 
+    /// The place behind the tokens passed.
+    pub(crate) fn place(&self) -> u32
+        ensures { result ≡ self.now.place }
+    {
+        self.place
+    }
+
     /// Moves past a token, and answers the line of the statement that ends after it, if one does.
     pub(crate) fn pass(&mut self, token: Token, last: bool) -> Option<EndLine>
-        requires within { Within self.old }
         requires some { 0 < token.len }
         requires fits { self.old.place + token.len < 2 ^ 32 }
-        ensures line { result ≡ option_map (end_line self.old token) (end_after self.old.rule.depth token last) }
-        ensures after { self.new ≡ past self.old token (end_after self.old.rule.depth token last) }
+        ensures line { result ≡ option_map (end_line self.old token) (end_after self.old.rule token last) }
+        ensures after { self.new ≡ past self.old token (end_after self.old.rule token last) }
     {
         self.place += token.len;
         self.tokens += 1;

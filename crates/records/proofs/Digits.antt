@@ -1,30 +1,33 @@
--- Two digits further in a list of digits.
-use Rattle.std.proofs.Common.{◌≡◌, ℕ, ◌+◌, ◌<◌, ◌≤◌, List, [], ◌∷◌, ◌++◌, length, get_or, drop, Some, None, Option, refl, ap, ◌∙◌, append_assoc, add_assoc, arith}
+-- Decoding two digits at a time.
+use Rattle.std.proofs.Common.{◌≡◌, ℕ, suc, ◌-◌, ◌<◌, ◌≤◌, List, [], ◌∷◌, ◌++◌, length, get_or, take, drop, Some, None, Option, refl, sym, ap, append_assoc, arith}
 use Rattle.records.specs.Hex.{before, decoded, digit_value, pair_value}
-use Rattle.std.proofs.lemmas.List.{drop_more, drop_all}
+use Rattle.std.proofs.lemmas.List.{take_all}
 use Rattle.std.specs.Option.{option_map}
 
--- bytes before those of the digits that are left
+-- bytes that stand before others, if there are others
 abbrev pub bytes_before : List ℕ → Option (List ℕ) → Option (List ℕ)
 bytes_before bytes rest = option_map (λ more. bytes ++ more) rest
 
-pub decoded_at : (xs : List ℕ) (i : ℕ) → i + 1 < length xs
-    → decoded (drop i xs) ≡ before (pair_value (digit_value (get_or xs i 0)) (digit_value (get_or xs (i + 1) 0))) (decoded (drop (i + 2) xs))
-unfolding decoded
-decoded_at xs i h =
-    let here : i < length xs = omega arith in
-    ap decoded (drop_more xs i 0 here ∙ ap (λ l. get_or xs i 0 ∷ l) (drop_more xs (i + 1) 0 h))
-    ∙ ap (λ n. before (pair_value (digit_value (get_or xs i 0)) (digit_value (get_or xs (i + 1) 0))) (decoded (drop n xs))) (add_assoc i 1 1)
+-- the rest behind two digits, as a slice pattern gives it
+abbrev pub behind : List ℕ → List ℕ
+behind xs = take (length xs - 2) (drop 2 xs)
 
-pub decoded_single : (xs : List ℕ) (i : ℕ) → i + 1 ≡ length xs → decoded (drop i xs) ≡ None
+pub decoded_pair : (xs : List ℕ) → 2 ≤ length xs → decoded xs ≡ before (pair_value (digit_value (get_or xs 0 0)) (digit_value (get_or xs 1 0))) (decoded (behind xs))
 unfolding decoded
-decoded_single xs i h =
-    let here : i < length xs = omega arith in
-    ap decoded (drop_more xs i 0 here ∙ ap (λ l. get_or xs i 0 ∷ l) (drop_all (i + 1) xs (omega arith)))
+decoded_pair [] h = absurd (omega arith)
+decoded_pair (x ∷ []) h = absurd (omega arith)
+decoded_pair (x ∷ y ∷ xs) h = ap (λ l. before (pair_value (digit_value x) (digit_value y)) (decoded l)) (sym (take_all (suc (suc (length xs)) - 2) xs (omega arith)))
 
-pub decoded_past : (xs : List ℕ) (i : ℕ) → length xs ≤ i → decoded (drop i xs) ≡ Some []
+pub decoded_none : (xs : List ℕ) → length xs ≡ 0 → decoded xs ≡ Some []
 unfolding decoded
-decoded_past xs i h = ap decoded (drop_all i xs h)
+decoded_none [] h = refl
+decoded_none (x ∷ xs) h = absurd (omega arith)
+
+pub decoded_one : (xs : List ℕ) → length xs < 2 → 0 < length xs → decoded xs ≡ None
+unfolding decoded
+decoded_one [] h some = absurd (omega arith)
+decoded_one (x ∷ []) h some = refl
+decoded_one (x ∷ y ∷ xs) h some = absurd (omega arith)
 
 -- one byte moves from the rest to the front
 pub bytes_before_push : (bytes : List ℕ) (b : ℕ) (rest : Option (List ℕ)) → bytes_before (bytes ++ b ∷ []) rest ≡ bytes_before bytes (before (Some b) rest)

@@ -1,16 +1,7 @@
 -- One byte further in the search for a line's end and for an empty line.
 use Rattle.std.proofs.Common.{◌≡◌, ℕ, ◌+◌, ◌<◌, ◌≤◌, Bool, true, false, cond, ◌&&◌, eqb, List, length, get_or, drop, refl, ap, ◌∙◌}
-use Rattle.records.specs.Record.{line_length, lines_length}
+use Rattle.records.specs.Record.{lines_length}
 use Rattle.std.proofs.lemmas.List.{drop_more, drop_all}
-
-pub line_length_at : (xs : List ℕ) (i : ℕ) → i < length xs
-    → line_length (drop i xs) ≡ cond (eqb (get_or xs i 0) 10) 0 (1 + line_length (drop (i + 1) xs))
-unfolding line_length
-line_length_at xs i h = ap line_length (drop_more xs i 0 h)
-
-pub line_length_past : (xs : List ℕ) (i : ℕ) → length xs ≤ i → line_length (drop i xs) ≡ 0
-unfolding line_length
-line_length_past xs i h = ap line_length (drop_all i xs h)
 
 pub lines_length_at : (starts : Bool) (xs : List ℕ) (i : ℕ) → i < length xs
     → lines_length starts (drop i xs) ≡ cond (starts && eqb (get_or xs i 0) 10) 0 (1 + lines_length (eqb (get_or xs i 0) 10) (drop (i + 1) xs))

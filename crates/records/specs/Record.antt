@@ -1,11 +1,11 @@
 -- A list of records. A record is a line with the text's digits, the lines of its listing, and an empty line.
 use Rattle.std.specs.Prelude.{ℕ, ◌+◌, Bool, true, if◌then◌else◌, ◌&&◌, List, [], ◌∷◌, length, take, drop, Some, None, Option, ◌==◌, nat_lt}
+use Rattle.std.specs.List.{position_or_len}
 use Rattle.records.specs.declared.record.Record.{Record}
 
 -- how many bytes stand before the first line end
-unfoldable pub line_length : List ℕ → ℕ
-line_length [] = 0
-line_length (b ∷ bs) = if b == 10 then 0 else 1 + line_length bs
+abbrev pub line_length : List ℕ → ℕ
+line_length bs = position_or_len (λ b. b == 10) bs
 
 -- how many bytes stand before the first empty line; `starts` says whether a line starts here
 unfoldable pub lines_length : Bool → List ℕ → ℕ

@@ -29,16 +29,17 @@ pub fn decode(heap: Global, digits: &[u8]) -> Result<Option<Vec<u8>>, AllocError
     ensures { IfOk result (λ bytes. option_map vec_items bytes ≡ decoded digits.now) }
 {
     let mut bytes = Vec::new(heap);
-    let mut place = 0;
-    while place < digits.len() {
-        if place + 1 == digits.len() {
-            return Ok(None);
-        }
-        let Some(byte) = byte_of(digits[place], digits[place + 1]) else {
+    let mut rest = digits;
+    while let [high, low, after @ ..] = rest {
+        let Some(byte) = byte_of(*high, *low) else {
             return Ok(None);
         };
         bytes.push(byte)?;
-        place += 2;
+        rest = after;
     }
-    Ok(Some(bytes))
+    if rest.is_empty() {
+        Ok(Some(bytes))
+    } else {
+        Ok(None)
+    }
 }

@@ -1,7 +1,8 @@
 //! The records of a list, one after the other.
 
-ghost use Rattle.std.specs.Prelude.{◌≡◌, ◌<◌, true, length, IfSome};
-ghost use Rattle.records.specs.Record.{first_record, line_length, lines_length, parts, split_at};
+ghost use Rattle.std.specs.Prelude.{◌≡◌, ◌<◌, ◌==◌, true, length, IfSome};
+ghost use Rattle.records.specs.Record.{first_record, lines_length, parts, split_at};
+ghost use Rattle.std.specs.List.{position_or_len};
 ghost use Rattle.std.specs.Option.{option_map};
 
 /// A text and the listing that is expected of it, and the list after them.
@@ -41,8 +42,9 @@ fn split(bytes: &[u8], place: usize) -> Option<(&[u8], &[u8])>
 }
 
 /// How many bytes stand before the first line end.
+#[tactic(auto, using(std::proofs::lemmas::List::Sums::position_or_len_is))]
 fn line_length(bytes: &[u8]) -> usize
-    ensures { result ≡ line_length bytes.now }
+    ensures { result ≡ position_or_len (λ b. b == 10) bytes.now }
 {
     for (place, byte) in bytes.iter().enumerate() {
         if *byte == b'\n' {

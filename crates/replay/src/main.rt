@@ -12,29 +12,23 @@ use std::alloc::Global;
 use std::io::Read;
 
 /// The longest list of records, in bytes.
-const LONGEST_LIST: usize = 16777216;
+const LONGEST_LIST: u64 = 1 << 36;
 
-fn read_list(rt: &HostRuntime) -> anyhow::Result<Vec<u8>> {
-    let mut list = Vec::new(rt.alloc());
-    let mut buffer = [0u8; 4096];
-    let mut input = rt.stdin();
-    for _ in 0..LONGEST_LIST {
-        let count = input.read(&mut buffer)?;
-        if count == 0 {
-            return Ok(list);
-        }
-        list.extend_from_slice(&buffer[0..count])?;
+fn read_list<R: Read + Drop>(heap: Global, input: R) -> anyhow::Result<Vec<u8>> {
+    let mut list = Vec::new(heap);
+    let mut bounded = input.take(LONGEST_LIST + 1);
+    bounded.read_to_end(&mut list)?;
+    if list.len() as u64 > LONGEST_LIST {
+        return Err(anyhow!("the list of records is too long"));
     }
-    Err(anyhow!("the list of records is too long"))
+    Ok(list)
 }
 
 /// The listing of a text in hexadecimal digits.
 fn list_digits(heap: Global, digits: &[u8]) -> anyhow::Result<Listing>
     ensures { IfOk result (λ listing. (text : List ℕ) → decoded digits.now ≡ Some text → Answers text (admitted text) listing) }
 {
-    let Some(text) = decode(heap, digits)? else {
-        return Err(anyhow!("a text is not in hexadecimal digits"));
-    };
+    let text = decode(heap, digits)?.ok_or(anyhow!("a text is not in hexadecimal digits"))?;
     Ok(list_input(heap, &text)?)
 }
 
@@ -46,9 +40,9 @@ fn replay(rt: &HostRuntime, list: &[u8]) -> anyhow::Result<()> {
     while let Some(record) = next_record(rest) {
         count += 1;
         let listing = list_digits(rt.alloc(), record.digits)?;
-        if listing.lines.as_bytes() != record.listing {
+        if listing.text().as_bytes() != record.listing {
             differing += 1;
-            println!(rt; "text {count} is listed as\n{}", listing.lines)?;
+            println!(rt; "text {count} is listed as\n{}", listing.text())?;
         }
         rest = record.rest;
     }
@@ -59,11 +53,7 @@ fn replay(rt: &HostRuntime, list: &[u8]) -> anyhow::Result<()> {
     Ok(())
 }
 
-fn run(rt: &HostRuntime) -> anyhow::Result<()> {
-    let list = read_list(rt)?;
-    replay(rt, &list)
-}
-
 fn main(rt: HostRuntime) -> anyhow::Result<()> {
-    run(&rt)
+    let list = read_list(rt.alloc(), rt.reader())?;
+    replay(&rt, &list)
 }

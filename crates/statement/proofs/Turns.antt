@@ -50,9 +50,5 @@ module _ (ts : List Token) (i : ℕ) (d : Token) (h : i < length ts) where
   pub statements_more : (s p m : ℕ) → end_after s (get_or ts i d) (eqb (i + 1) (length ts)) ≡ None → statements_on s p m (drop i ts) ≡ statements_on (next_state s (get_or ts i d)) (p + 1) (m + cond (solid (get_or ts i d)) 1 0) (drop (i + 1) ts)
   statements_more s p m e = turn s p m ∙ ap (beyond s p m (get_or ts i d) (drop (i + 1) ts)) e
 
-  -- an end stands there
-  pub statement_here : (s p m : ℕ) (cause : Cause) → end_after s (get_or ts i d) (eqb (i + 1) (length ts)) ≡ Some cause → slice_get (statements_on s p m (drop i ts)) 0 ≡ Some record { tokens = p + 1; solid = m + cond (solid (get_or ts i d)) 1 0; cause = cause }
-  statement_here s p m cause e = ap (λ l. slice_get l 0) (turn s p m ∙ ap (beyond s p m (get_or ts i d) (drop (i + 1) ts)) e)
-
   pub state_more : (s : ℕ) → state_after s (take (i + 1) ts) ≡ next_state (state_after s (take i ts)) (get_or ts i d)
   state_more s = ap (state_after s) (take_more ts i d h) ∙ state_after_push s (take i ts) (get_or ts i d)

@@ -10,11 +10,7 @@ use Rattle.statement.specs.Roles.{Role, blank, plain, opening, closing, semicolo
 -- all tokens but whitespace and comments are solid
 abbrev pub solid_role : Role → Bool
 solid_role (blank terminated) = false
-solid_role (plain terminated) = true
-solid_role opening = true
-solid_role closing = true
-solid_role semicolon = true
-solid_role (command ends_query) = true
+solid_role other = true
 
 abbrev pub solid : Token → Bool
 solid t = solid_role (role t.kind)
@@ -23,10 +19,7 @@ solid t = solid_role (role t.kind)
 abbrev pub unterminated_role : Role → Bool
 unterminated_role (blank terminated) = not terminated
 unterminated_role (plain terminated) = not terminated
-unterminated_role opening = false
-unterminated_role closing = false
-unterminated_role semicolon = false
-unterminated_role (command ends_query) = false
+unterminated_role other = false
 
 abbrev pub unterminated : Token → Bool
 unterminated t = unterminated_role (role t.kind)
@@ -38,12 +31,10 @@ first_state = 0
 -- The state after a token. A depth has 32 bits and stays at the largest such number; that never
 -- shows, since a text has at most 16,777,216 bytes, and so at most as many tokens.
 abbrev pub role_state : ℕ → Role → ℕ
-role_state depth (blank terminated) = depth
-role_state depth (plain terminated) = depth
 role_state depth opening = min (depth + 1) 4294967295
 role_state depth closing = depth - 1
-role_state depth semicolon = depth
 role_state depth (command ends_query) = if ends_query then 0 else depth
+role_state depth other = depth
 
 abbrev pub next_state : ℕ → Token → ℕ
 next_state depth t = role_state depth (role t.kind)
@@ -51,12 +42,9 @@ next_state depth t = role_state depth (role t.kind)
 -- The end that stands after a token whatever follows it: after `;` where no parenthesis is open, and after a
 -- command that ends a query. `\;` is a semicolon of two bytes and ends nothing.
 abbrev pub role_end : ℕ → ℕ → Role → Option Cause
-role_end depth len (blank terminated) = None
-role_end depth len (plain terminated) = None
-role_end depth len opening = None
-role_end depth len closing = None
 role_end depth len semicolon = if len == 1 && depth == 0 then Some Semicolon else None
 role_end depth len (command ends_query) = if ends_query then Some Command else None
+role_end depth len other = None
 
 abbrev pub own_end : ℕ → Token → Option Cause
 own_end depth t = role_end depth t.len (role t.kind)

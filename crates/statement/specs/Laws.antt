@@ -4,7 +4,7 @@ use Rattle.lexer.specs.declared.token.Token.{Token}
 use Rattle.statement.specs.declared.Statement.{Statement}
 use Rattle.lexer.specs.declared.token.TokenKind.TheVariants.{Semi}
 use Rattle.statement.specs.declared.Cause.TheVariants.{Semicolon}
-use Rattle.statement.specs.Roles.{Role, blank, plain, opening, closing, semicolon, command, role}
+use Rattle.statement.specs.Roles.{Role, opening, closing, command, role}
 use Rattle.statement.specs.Ends.{first_state, own_end}
 use Rattle.statement.specs.Statements.{state_after, solids, statements}
 
@@ -26,28 +26,16 @@ Shared = (state : ℕ) (ts : List Token) → SharedOut ts (statements state ts)
 
 -- what a token adds to the opening and to the closing parentheses, and whether it ends a query
 abbrev pub opens : Role → ℕ
-opens (blank terminated) = 0
-opens (plain terminated) = 0
 opens opening = 1
-opens closing = 0
-opens semicolon = 0
-opens (command ends_query) = 0
+opens other = 0
 
 abbrev pub closes : Role → ℕ
-closes (blank terminated) = 0
-closes (plain terminated) = 0
-closes opening = 0
 closes closing = 1
-closes semicolon = 0
-closes (command ends_query) = 0
+closes other = 0
 
 abbrev pub ends_query : Role → Bool
-ends_query (blank terminated) = false
-ends_query (plain terminated) = false
-ends_query opening = false
-ends_query closing = false
-ends_query semicolon = false
 ends_query (command ends) = ends
+ends_query other = false
 
 abbrev pub openings : List Token → ℕ
 openings [] = 0

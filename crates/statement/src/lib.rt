@@ -4,13 +4,13 @@
 ghost use Rattle.std.specs.Prelude.{◌≡◌, ℕ, take};
 ghost use Rattle.statement.specs.Causes.{cause_number};
 ghost use Rattle.statement.specs.EndLaws.{EndsStand};
-ghost use Rattle.statement.specs.Ends.{solid, unterminated, unterminated_role, first_state, next_state, own_end, last_cause, end_after};
+ghost use Rattle.statement.specs.Ends.{solid, unterminated, first_state, next_state, own_end, last_cause, end_after};
 ghost use Rattle.statement.specs.Laws.{DepthCounts, SemicolonEnds, Shared};
-ghost use Rattle.statement.specs.Roles.{literal_role};
 ghost use Rattle.statement.specs.Statements.{state_after, statements, tokens_of};
 ghost use Rattle.std.specs.List.{slice_get};
 
 use lexer::token::{LiteralKind, Token, TokenKind};
+use std::marker::Model;
 
 /// Why a statement ends where it does.
 #[derive(Clone, Copy, PartialEq, Debug)]
@@ -46,38 +46,33 @@ pub struct Statement {
 pub fn is_solid(token: Token) -> bool
     ensures { result ≡ solid token }
 {
-    match token.kind {
-        TokenKind::Whitespace | TokenKind::LineComment | TokenKind::BlockComment { .. } => false,
-        _ => true,
-    }
+    !matches!(
+        token.kind,
+        TokenKind::Whitespace | TokenKind::LineComment | TokenKind::BlockComment { .. }
+    )
 }
 
-/// Whether a token lacks the mark that would close it.
+/// Whether a token lacks the mark that would close it. A number needs none, a string does.
 pub fn is_unterminated(token: Token) -> bool
     ensures { result ≡ unterminated token }
 {
-    match token.kind {
-        TokenKind::BlockComment { terminated } | TokenKind::QuotedIdent { terminated, .. } =>
-            !terminated,
-        TokenKind::Literal { kind } => is_unterminated_literal(kind),
-        _ => false,
-    }
-}
-
-/// A number needs no closing mark, a string does.
-fn is_unterminated_literal(kind: LiteralKind) -> bool
-    ensures { result ≡ unterminated_role (literal_role kind) }
-{
-    match kind {
-        LiteralKind::Int { .. } | LiteralKind::Numeric { .. } => false,
-        LiteralKind::Str { terminated }
-        | LiteralKind::NationalStr { terminated }
-        | LiteralKind::ByteStr { terminated }
-        | LiteralKind::BitStr { terminated }
-        | LiteralKind::DollarQuotedString { terminated }
-        | LiteralKind::UnicodeEscStr { terminated }
-        | LiteralKind::EscStr { terminated } => !terminated,
-    }
+    matches!(
+        token.kind,
+        TokenKind::BlockComment { terminated: false }
+            | TokenKind::QuotedIdent {
+                terminated: false,
+                ..
+            }
+            | TokenKind::Literal {
+                kind: LiteralKind::Str { terminated: false }
+                    | LiteralKind::NationalStr { terminated: false }
+                    | LiteralKind::ByteStr { terminated: false }
+                    | LiteralKind::BitStr { terminated: false }
+                    | LiteralKind::DollarQuotedString { terminated: false }
+                    | LiteralKind::UnicodeEscStr { terminated: false }
+                    | LiteralKind::EscStr { terminated: false },
+            }
+    )
 }
 
 /// The cause of the end after a text's last token, where `pass` answers none for it.
@@ -98,11 +93,19 @@ pub struct Ends {
     depth: u32,
 }
 
+impl Model for Ends {
+    ghost Value = { ℕ };
+
+    ghost view = { λ ends. ends.depth };
+
+    ghost inverse = { λ depth. record { depth = depth } };
+}
+
 impl Ends {
     /// The rule before the first token. From here its state counts the parentheses left open, and a `;` ends a
     /// statement exactly where there are none. In a text, no end stands inside a token.
     pub fn new() -> Ends
-        ensures state { result.depth ≡ first_state }
+        ensures state { result ≡ first_state }
         ensures counts { DepthCounts }
         ensures semicolon { SemicolonEnds }
         ensures places { EndsStand }
@@ -112,8 +115,8 @@ impl Ends {
 
     /// Passes a token, and answers the end that stands after it whatever follows.
     pub fn pass(&mut self, token: Token) -> Option<Cause>
-        ensures end { result ≡ own_end self.old.depth token }
-        ensures state { self.new.depth ≡ next_state self.old.depth token }
+        ensures end { result ≡ own_end self.old token }
+        ensures state { self.new ≡ next_state self.old token }
     {
         match token.kind {
             TokenKind::OpenParen => {
@@ -135,8 +138,8 @@ impl Ends {
 
     /// Passes a token, and answers the end that stands after it. `last` says whether it is the text's last.
     pub fn end_after(&mut self, token: Token, last: bool) -> Option<Cause>
-        ensures end { result ≡ end_after self.old.depth token last }
-        ensures state { self.new.depth ≡ next_state self.old.depth token }
+        ensures end { result ≡ end_after self.old token last }
+        ensures state { self.new ≡ next_state self.old token }
     {
         match self.pass(token) {
             None if last => Some(last_cause(token)),
@@ -147,19 +150,17 @@ impl Ends {
     /// Passes tokens up to the next end, and answers the statement that they make, or `None` if there are
     /// no tokens. The last of the tokens counts as the text's last.
     pub fn next_statement(&mut self, tokens: &[Token]) -> Option<Statement>
-        ensures first { result ≡ slice_get (statements self.old.depth tokens.now) 0 }
-        ensures state { self.new.depth ≡ state_after self.old.depth (take (tokens_of result) tokens.now) }
+        ensures first { result ≡ slice_get (statements self.old tokens.now) 0 }
+        ensures state { self.new ≡ state_after self.old (take (tokens_of result) tokens.now) }
         ensures shared { Shared }
     {
-        let mut passed = 0;
         let mut solid = 0;
-        while passed < tokens.len() {
-            let token = tokens[passed];
-            passed += 1;
-            if is_solid(token) {
+        for (index, token) in tokens.iter().enumerate() {
+            if is_solid(*token) {
                 solid += 1;
             }
-            if let Some(cause) = self.end_after(token, passed == tokens.len()) {
+            let passed = index + 1;
+            if let Some(cause) = self.end_after(*token, passed == tokens.len()) {
                 return Some(Statement {
                     tokens: passed,
                     solid,
@@ -188,119 +189,77 @@ mod tests {
     }
 
     #[test]
-    fn semicolon_in_parentheses_ends_nothing(rt: HostRuntime) {
-        // a(;)b;c
-        let tokens = [
+    fn first_statements(rt: HostRuntime) {
+        let ident = one(TokenKind::Ident);
+        let semi = one(TokenKind::Semi);
+        let escaped = Token { len: 2, ..semi };
+        let open = one(TokenKind::OpenParen);
+        let close = one(TokenKind::CloseParen);
+        let command = one(TokenKind::PsqlCommand { ends_query: false });
+        let line = one(TokenKind::LineComment);
+        let comment = one(TokenKind::BlockComment { terminated: false });
+        let open_string = one(TokenKind::Literal {
+            kind: LiteralKind::Str { terminated: false },
+        });
+        let string = one(TokenKind::Literal {
+            kind: LiteralKind::Str { terminated: true },
+        });
+        let cases: [(&[Token], Option<Statement>); 8] = [
+            // a\;b;
+            (
+                &[ident, escaped, ident, semi],
+                ended(4, 4, Cause::Semicolon),
+            ),
+            // )(;);
+            (
+                &[close, open, semi, close, semi],
+                ended(5, 5, Cause::Semicolon),
+            ),
+            (&[command, line], ended(2, 1, Cause::Last)),
+            (&[ident, open_string], ended(2, 2, Cause::Unterminated)),
+            (&[ident, string], ended(2, 2, Cause::Last)),
+            (&[comment], ended(1, 0, Cause::Unterminated)),
+            // a(;)b;c
+            (
+                &[ident, open, semi, close, ident, semi, ident],
+                ended(6, 6, Cause::Semicolon),
+            ),
+            (&[], None),
+        ];
+        for (tokens, statement) in cases {
+            assert_eq!(rt; Ends::new().next_statement(tokens), statement);
+        }
+    }
+
+    #[test]
+    fn second_statements(rt: HostRuntime) {
+        let mut ends = Ends::new();
+        // a(;)b; and c
+        let first = [
             one(TokenKind::Ident),
             one(TokenKind::OpenParen),
             one(TokenKind::Semi),
             one(TokenKind::CloseParen),
             one(TokenKind::Ident),
             one(TokenKind::Semi),
-            one(TokenKind::Ident),
         ];
-        let mut ends = Ends::new();
-        assert_eq!(rt; ends.next_statement(&tokens), ended(6, 6, Cause::Semicolon));
-        assert_eq!(rt; ends.next_statement(&tokens[6..]), ended(1, 1, Cause::Last));
-    }
-
-    #[test]
-    fn escaped_semicolon_ends_nothing(rt: HostRuntime) {
-        // a\;b;
-        let escaped = Token {
-            kind: TokenKind::Semi,
+        assert_eq!(rt; ends.next_statement(&first), ended(6, 6, Cause::Semicolon));
+        assert_eq!(rt;
+            ends.next_statement(&[one(TokenKind::Ident)]),
+            ended(1, 1, Cause::Last)
+        );
+        // (\g and a line end, then ;
+        let ends_query = Token {
+            kind: TokenKind::PsqlCommand { ends_query: true },
             len: 2,
         };
-        let tokens = [
-            one(TokenKind::Ident),
-            escaped,
-            one(TokenKind::Ident),
-            one(TokenKind::Semi),
-        ];
         assert_eq!(rt;
-            Ends::new().next_statement(&tokens),
-            ended(4, 4, Cause::Semicolon)
+            ends.next_statement(&[one(TokenKind::OpenParen), ends_query]),
+            ended(2, 2, Cause::Command)
         );
-    }
-
-    #[test]
-    fn stray_closing_parenthesis_counts_for_nothing(rt: HostRuntime) {
-        // )(;);
-        let tokens = [
-            one(TokenKind::CloseParen),
-            one(TokenKind::OpenParen),
-            one(TokenKind::Semi),
-            one(TokenKind::CloseParen),
-            one(TokenKind::Semi),
-        ];
         assert_eq!(rt;
-            Ends::new().next_statement(&tokens),
-            ended(5, 5, Cause::Semicolon)
-        );
-    }
-
-    #[test]
-    fn command_ends_in_parentheses_and_closes_them(rt: HostRuntime) {
-        // (\g and a line end, then ;
-        let tokens = [
-            one(TokenKind::OpenParen),
-            Token {
-                kind: TokenKind::PsqlCommand { ends_query: true },
-                len: 2,
-            },
-            one(TokenKind::Whitespace),
-            one(TokenKind::Semi),
-        ];
-        let mut ends = Ends::new();
-        assert_eq!(rt; ends.next_statement(&tokens), ended(2, 2, Cause::Command));
-        assert_eq!(rt;
-            ends.next_statement(&tokens[2..]),
+            ends.next_statement(&[one(TokenKind::Whitespace), one(TokenKind::Semi)]),
             ended(2, 1, Cause::Semicolon)
         );
-    }
-
-    #[test]
-    fn other_command_ends_nothing(rt: HostRuntime) {
-        let command = Token {
-            kind: TokenKind::PsqlCommand { ends_query: false },
-            len: 2,
-        };
-        assert_eq!(rt;
-            Ends::new().next_statement(&[command, one(TokenKind::LineComment)]),
-            ended(2, 1, Cause::Last)
-        );
-    }
-
-    #[test]
-    fn text_ends_inside_a_string(rt: HostRuntime) {
-        let open = TokenKind::Literal {
-            kind: LiteralKind::Str { terminated: false },
-        };
-        let closed = TokenKind::Literal {
-            kind: LiteralKind::Str { terminated: true },
-        };
-        assert_eq!(rt;
-            Ends::new().next_statement(&[one(TokenKind::Ident), one(open)]),
-            ended(2, 2, Cause::Unterminated)
-        );
-        assert_eq!(rt;
-            Ends::new().next_statement(&[one(TokenKind::Ident), one(closed)]),
-            ended(2, 2, Cause::Last)
-        );
-    }
-
-    #[test]
-    fn text_ends_inside_a_comment(rt: HostRuntime) {
-        let open = TokenKind::BlockComment { terminated: false };
-        assert_eq!(rt;
-            Ends::new().next_statement(&[one(open)]),
-            ended(1, 0, Cause::Unterminated)
-        );
-    }
-
-    #[test]
-    fn no_tokens_make_no_statement(rt: HostRuntime) {
-        let none: [Token; 0] = [];
-        assert_eq!(rt; Ends::new().next_statement(&none), None);
     }
 }

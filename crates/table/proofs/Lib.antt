@@ -1,3 +1,3 @@
 mod Partings
 mod Readings
-mod SameTokens
+mod Equal

@@ -5,7 +5,7 @@ use Rattle.std.proofs.lemmas.List.{drop_all, drop_more}
 use Rattle.std.proofs.lemmas.Bool.{both_ways, cases_Bool}
 use Rattle.std.specs.List.{slice_get}
 use Rattle.table.proofs.Readings.{slice_get_below, slice_get_value, some_none, some_value}
-use Rattle.table.proofs.SameTokens.{same_decides}
+use Rattle.table.proofs.Equal.{same_decides}
 use Rattle.table.specs.Parting.{Tells, parting, parting_from}
 use Rattle.table.specs.Same.{same}
 

@@ -28,10 +28,8 @@ fn parting<T: Text>(text: &T, tokens: &[Token]) -> Option<u32>
         place += token.len;
         index += 1;
     }
-    match token_at(text, place) {
-        Some(_) => Some(index),
-        None => None,
-    }
+    token_at(text, place)?;
+    Some(index)
 }
 
 /// None where a list of tokens is the cut of a text, and else the first index where they part, a missing entry on

@@ -28,11 +28,12 @@ fn write_tokens<T: Text>(text: &T, table: &mut [Token])
     ensures { table.new ≡ cut (T.bytes text.now) ++ drop (length (cut (T.bytes text.now))) table.old }
 {
     let mut place: u32 = 0;
-    let mut index: usize = 0;
-    while let Some(token) = token_at(text, place) {
-        table[index] = token;
+    for entry in table.iter_mut() {
+        let Some(token) = token_at(text, place) else {
+            return;
+        };
+        *entry = token;
         place += token.len;
-        index += 1;
     }
 }
 

@@ -1,9 +1,10 @@
-use Rattle.std.proofs.Common.{◌++◌, length, string_bytes, sym, refl, ap, ◌∙◌, subst, arith}
+use Rattle.std.proofs.Common.{◌++◌, length, string_bytes, sym, ap, ◌∙◌, subst, arith}
+use Rattle.lexer.specs.Lex.{token_at}
 use Rattle.lexer.proofs.Readings.{reads_all}
 use Rattle.listing.specs.Lines.{total_bytes}
 use Rattle.listing.specs.Listed.{listed}
-use Rattle.listing.specs.Walk.{Within, end_there}
-use Rattle.listing.proofs.Walks.{Walking, within_past, place-past, walking_more, walking_cover, walking_all}
+use Rattle.listing.specs.Walk.{end_there}
+use Rattle.listing.proofs.Walks.{Walking, place-past, walking_more, walking_cover, walking_all}
 use Rattle.listing.proofs.Statements.{walk_lists}
 use Rattle.listing.proofs.list_tokens.Goals as goal
 
@@ -18,9 +19,8 @@ loop-token-preserved g c =
     let inv = c.loop-token.invariant in
     let there = c.in-Some.ensures.inside in (
       inv.0,
-      omega (arith, there.1, ap (λ u. u.place) onward, place-past w t end, inv.0),
-      subst Within (sym onward) (within_past w t end there.0 inv.2),
-      walking_more bs size w (string_bytes c.loop-token.lines) inv.3 c.list_token.new.walk (string_bytes c.list_token.new.lines) t (sym c.in-Some.ensures.value) there.0 onward c.in_ok-list_token.ensures.lines,
+      omega (arith, c.place.ensures, there.1, ap (λ u. u.place) onward, place-past w t end, inv.0),
+      walking_more bs size w (string_bytes c.loop-token.lines) inv.2 c.list_token.new.walk (string_bytes c.list_token.new.lines) t (ap (token_at bs) (sym c.place.ensures) ∙ sym c.in-Some.ensures.value) there.0 onward c.in_ok-list_token.ensures.lines,
     )
 
 pub loop-token-smaller : goal.loop-token-smaller
@@ -30,7 +30,7 @@ loop-token-smaller g c =
     let end = end_there c.len-size.result w t in
     let there = c.in-Some.ensures.inside in
     let inv = c.loop-token.invariant in
-    omega (arith, there.0, there.1, ap (λ u. u.place) c.in_ok-list_token.ensures.walk, place-past w t end, inv.0)
+    omega (arith, c.place.ensures, there.0, there.1, ap (λ u. u.place) c.in_ok-list_token.ensures.walk, place-past w t end, inv.0)
 
 pub returns : goal.returns
 returns g c =
@@ -39,9 +39,6 @@ returns g c =
     let w = c.loop-token.walk in
     let inv = c.loop-token.invariant in
     let out = string_bytes c.loop-token.lines in
-    let so : Walking bs size w out = subst (λ n. Walking bs n w out) inv.0 inv.3 in
-    let cover = walking_cover bs size w out so (omega (arith, inv.0, inv.1, c.in_default.ensures.inside)) in
-    record {
-      refused = refl;
-      lines = walking_all bs size w out so (string_bytes c.push.new.lines) (c.in_ok-push.ensures ∙ ap (λ l. out ++ total_bytes l) c.total_line.ensures) ∙ walk_lists size so.tokens cover so.none_empty ∙ ap listed (reads_all bs so.tokens so.reads cover);
-    }
+    let so : Walking bs size w out = subst (λ n. Walking bs n w out) inv.0 inv.2 in
+    let cover = walking_cover bs size w out so (omega (arith, c.place.ensures, inv.0, inv.1, c.in_default.ensures.inside)) in
+    walking_all bs size w out so (string_bytes c.write.new.self) (c.in_ok-write.ensures.bytes ∙ ap (λ l. out ++ total_bytes l) c.total_line-total.ensures) ∙ walk_lists size so.tokens cover so.none_empty ∙ ap listed (reads_all bs so.tokens so.reads cover)

@@ -1,7 +1,6 @@
--- What was passed and the rest of the line make the line.
-use Rattle.std.proofs.Common.{◌≡◌, ◌+◌, drop}
+-- No byte that was passed ends the line.
+use Rattle.std.proofs.Common.{◌≡◌, ℕ, ◌<◌, ◌==◌, false, get_or}
 use Rattle.records.proofs.record.line_length.Given as goal
-use Rattle.records.specs.Record.{line_length}
 
 abbrev pub invariant-loop-place : goal.invariant-loop-place
-invariant-loop-place l = l.place + line_length (drop l.place l.bytes) ≡ line_length l.bytes
+invariant-loop-place l = (k : ℕ) → k < l.place → (get_or l.bytes k 0 == 10) ≡ false

@@ -40,21 +40,21 @@ loop-index-preserved g c =
       sym (parting_later (cut bs) c.args.tokens.now i nothing c.in-Some.token next (omega arith) (sym c.if-not-same_token.ensures.value)) ∙ inv.1,
     )
 
-pub returns-in-Some-token_at : goal.returns-in-Some-token_at
-returns-in-Some-token_at g c =
+pub returns : goal.returns
+returns g c =
     let bs = g.T.Text.bytes c.args.text.now in
     let i = c.loop-index.index in
-    let met = c.in-Some-token_at.ensures in
+    let met = c.in_ok-token_at.ensures in
     let inv = c.loop-index.invariant in
     let next = sym (reading_next met.laws bs c.loop-index.place i inv.0) ∙ sym met.value in
-    let below = slice_get_below (cut bs) i c.in-Some-token_at.field-0 next in
+    let below = slice_get_below (cut bs) i c.in_ok-token_at.field-0 next in
     sym (parting_second_ends (cut bs) c.args.tokens.now i nothing below (omega arith)) ∙ inv.1
 
-pub returns-in-None : goal.returns-in-None
-returns-in-None g c =
+pub returns-in_err-token_at : goal.returns-in_err-token_at
+returns-in_err-token_at g c =
     let bs = g.T.Text.bytes c.args.text.now in
     let i = c.loop-index.index in
-    let met = c.in-None.ensures in
+    let met = c.in_err-token_at.ensures in
     let inv = c.loop-index.invariant in
     let all = reading_all met.laws bs c.loop-index.place i inv.0 (sym met.value) in
-    sym (parting_both_end (cut bs) c.args.tokens.now i nothing (omega arith) (omega arith)) ∙ inv.1
+    c.from_residual.ensures ∙ sym (parting_both_end (cut bs) c.args.tokens.now i nothing (omega arith) (omega arith)) ∙ inv.1
