@@ -3,7 +3,8 @@ use Rattle.std.proofs.Common.{◌≡◌, ℕ, zero, suc, ◌+◌, ◌<◌, Bool,
 use Rattle.lexer.proofs.Dollars.{opener_within, opens_sign}
 use Rattle.lexer.proofs.Stopped.{at_later, command_stopped, parameter_stopped}
 use Rattle.lexer.specs.Class.{backslash, tag_cont, whitespace}
-use Rattle.lexer.specs.Comment.{closes, comment, Extent, commented, opens}
+use Rattle.lexer.specs.Comment.{closes, comment, commented, opens}
+use Rattle.lexer.specs.Extent.{Extent}
 use Rattle.lexer.specs.Cursor.{peek, run}
 use Rattle.lexer.specs.Dollar.{begins, delimited, dollar_delimiter, dollar_len, dollar_opener, dollar_quoted, opens_dollar}
 use Rattle.lexer.specs.Psql.{psql_len}

@@ -1,7 +1,8 @@
 -- One turn of the comment loop.
 use Rattle.std.proofs.Common.{◌≡◌, ℕ, zero, suc, ◌+◌, ◌-◌, ◌<◌, ◌≤◌, Bool, true, false, cond, ◌&&◌, eqb, ◌⊎◌, List, [], ◌∷◌, length, get_or, drop, Some, None, sym, refl, ap, ◌∙◌, inl, inr, arith, eq-eqb, ne_eqb}
 use Rattle.lexer.proofs.Turns.{by_byte, turn}
-use Rattle.lexer.specs.Comment.{Extent, closes, comment, commented, further, opens}
+use Rattle.lexer.specs.Comment.{closes, comment, commented, opens}
+use Rattle.lexer.specs.Extent.{Extent, further}
 use Rattle.std.proofs.lemmas.List.{drop-drop, get_or-drop}
 use Rattle.std.proofs.lemmas.Bool.{cond_both}
 use Rattle.std.specs.List.{slice_get}

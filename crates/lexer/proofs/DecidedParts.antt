@@ -2,7 +2,8 @@
 use Rattle.std.proofs.Common.{Option, None, ◌≡◌, ℕ, zero, suc, ◌+◌, ◌≤◌, Bool, true, false, cond, ◌&&◌, ◌||◌, eqb, List, [], ◌∷◌, ◌++◌, length, refl, ap, ◌∙◌, inl, inr, arith}
 use Rattle.lexer.proofs.Decided.{Decided, alike, chosen}
 use Rattle.lexer.specs.Class.{backslash, ident_cont, ident_start, line_blank}
-use Rattle.lexer.specs.Comment.{closes, comment, comment_closed, commented, further, opens}
+use Rattle.lexer.specs.Comment.{closes, comment, comment_closed, commented, opens}
+use Rattle.lexer.specs.Extent.{further}
 use Rattle.lexer.specs.Cursor.{digit_met, digits, identifier, leads, run}
 use Rattle.lexer.specs.Dollar.{begins, delimited, delimited_closed}
 use Rattle.lexer.specs.PsqlArg.{after, arguments, is_parenthesis, last_after, options, separates, stops}

@@ -1,6 +1,7 @@
 -- The marks of a block comment, counted, tell how many comments are open.
 use Rattle.std.proofs.Common.{◌≡◌, ℕ, zero, suc, ◌+◌, ◌<◌, true, false, List, [], ◌∷◌, length, take, sym, refl, ap, ◌∙◌, inl, inr, arith}
-use Rattle.lexer.specs.Comment.{Extent, closes, comment, comment_closed, commented, further, opens}
+use Rattle.lexer.specs.Comment.{closes, comment, comment_closed, commented, opens}
+use Rattle.lexer.specs.Extent.{Extent, further}
 use Rattle.lexer.specs.TokenLaws.{closers, openers}
 use Rattle.std.proofs.lemmas.Bool.{cases_Bool}
 use borrow.Author.Tests.{clash}

@@ -1,15 +1,7 @@
 -- Comments: how far one reaches after its opening mark, and whether it is closed.
-use Rattle.std.specs.Prelude.{ℕ, zero, suc, ◌+◌, Bool, true, false, if◌then◌else◌, ◌&&◌, List, [], ◌∷◌, ◌==◌}
+use Rattle.std.specs.Prelude.{ℕ, zero, suc, Bool, true, false, if◌then◌else◌, ◌&&◌, List, [], ◌∷◌, ◌==◌}
 use Rattle.lexer.specs.Byte.{byte}
-
--- how many bytes something takes with the mark that closes it, or all there are; and whether there is such a mark
-pub record Extent : Type 0 where
-  pub len : ℕ
-  pub closed : Bool
-
--- the same with n bytes more before it
-abbrev pub further : ℕ → Extent → Extent
-further n e = record { len = n + e.len; closed = e.closed }
+use Rattle.lexer.specs.Extent.{Extent, further}
 
 -- `/*` and `*/`
 abbrev pub opens : ℕ → ℕ → Bool

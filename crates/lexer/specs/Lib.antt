@@ -1,10 +1,11 @@
-pub mod Byte
 pub mod AllLaws
+pub mod Byte
 pub mod Class
 pub mod Comment
 pub mod Cursor
 pub mod Cut
 pub mod Dollar
+pub mod Extent
 pub mod Laws
 pub mod Lex
 pub mod Number

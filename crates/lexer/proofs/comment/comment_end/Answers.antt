@@ -3,7 +3,8 @@ use Rattle.lexer.proofs.Comments.{closed, commented_none, commented_past, furthe
 use Rattle.lexer.proofs.Rest.{inside}
 use Rattle.lexer.proofs.comment.comment_end.Goals as goal
 use Rattle.lexer.proofs.comment.comment_end.Goals.{in-Some+else-byte-eq47+then-byte-eq42+then-next-eq47+then-depth-eq0, in_default}
-use Rattle.lexer.specs.Comment.{Extent, commented, further}
+use Rattle.lexer.specs.Comment.{commented}
+use Rattle.lexer.specs.Extent.{Extent, further}
 
 pub loop-byte-preserved-then-next-eq42 : goal.loop-byte-preserved-then-next-eq42
 loop-byte-preserved-then-next-eq42 g c =

@@ -1,6 +1,7 @@
 use Rattle.std.proofs.Common.{◌≡◌, ◌+◌, ◌-◌, ◌<◌, ◌≤◌, length, drop}
 use Rattle.lexer.proofs.comment.comment_end.Given as goal
-use Rattle.lexer.specs.Comment.{commented, further}
+use Rattle.lexer.specs.Comment.{commented}
+use Rattle.lexer.specs.Extent.{further}
 
 abbrev pub invariant-loop-byte : goal.invariant-loop-byte
 invariant-loop-byte g l =
