@@ -19,7 +19,9 @@ between = record { rows = table; taken = 0 }
 abbrev pub left_after : ℕ → List Row → List Row
 left_after b [] = []
 left_after b ([] ∷ rows) = left_after b rows
-left_after b ((range ∷ row) ∷ rows) = if holds range b then row ∷ left_after b rows else left_after b rows
+left_after b ((range ∷ row) ∷ rows) =
+    if holds range b then row ∷ left_after b rows
+    else left_after b rows
 
 -- With no row left the sequence is ill-formed; a row with nothing left is a sequence at its end.
 abbrev pub came_to : List Row → ℕ → Progress
@@ -44,7 +46,9 @@ run p (b ∷ bs) = run (step p b) bs
 -- How many first bytes of a list together begin one of these rows.
 abbrev pub begun : List Row → List ℕ → ℕ
 begun rows [] = 0
-begun rows (b ∷ bs) = if none_left (left_after b rows) then 0 else suc (begun (left_after b rows) bs)
+begun rows (b ∷ bs) =
+    if none_left (left_after b rows) then 0
+    else suc (begun (left_after b rows) bs)
 
 -- What follows the well-formed front of a list.
 abbrev pub unsound : List ℕ → List ℕ

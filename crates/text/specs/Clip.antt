@@ -19,4 +19,9 @@ clip_short xs = omega (arith, length-take 16777217 xs)
 pub clips_short : (xs ys : List ℕ) → length (clip xs ++ clip ys) < 2 ^ 32
 unfolding clip
 clips_short xs ys =
-    omega (arith, length-append (clip xs) (clip ys), length-take 16777217 xs, length-take 16777217 ys)
+    omega (
+      arith,
+      length-append (clip xs) (clip ys),
+      length-take 16777217 xs,
+      length-take 16777217 ys,
+    )

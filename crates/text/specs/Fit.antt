@@ -10,7 +10,8 @@ use Rattle.text.specs.declared.fault.TextFault.TheVariants.{TooLong, IllFormed}
 abbrev pub checked : List ℕ → Result (Unit {0}) TextFault
 checked bs =
     if nat_lt longest (length bs) then Err TooLong
-    else (if sound bs == length bs then Ok tt else Err (IllFormed (sound bs)))
+    else if sound bs == length bs then Ok tt
+    else Err (IllFormed (sound bs))
 
 -- The table agrees with the encoding of characters: a list is well formed exactly if it is `IsUtf8`, the encodings
 -- of scalar values one after another.

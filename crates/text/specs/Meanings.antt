@@ -1,6 +1,5 @@
--- What the two texts over lent runs mean.
-use Rattle.std.specs.Prelude.{ℕ, List, ◌++◌}
-use Rattle.text.specs.Clip.{clip}
+-- The lent runs that the two texts over such runs were given.
+use Rattle.std.specs.Prelude.{ℕ, List}
 use Rattle.text.specs.declared.flat.Flat.{Flat}
 use Rattle.text.specs.declared.halves.Halves.{Halves}
 
@@ -8,6 +7,9 @@ use Rattle.text.specs.declared.halves.Halves.{Halves}
 abbrev pub flat_run : Flat → List ℕ
 flat_run t = t.run.now
 
--- Halves mean the front run followed by the back run, each clipped by itself.
-abbrev pub halves_bytes : Halves → List ℕ
-halves_bytes t = clip t.front.now ++ clip t.back.now
+-- The front run of halves, and the back run.
+abbrev pub halves_front : Halves → List ℕ
+halves_front t = t.front.now
+
+abbrev pub halves_back : Halves → List ℕ
+halves_back t = t.back.now

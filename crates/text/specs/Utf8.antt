@@ -50,7 +50,9 @@ sequence bs = matched table bs
 unfoldable pub sound_after : ℕ → List ℕ → ℕ
 sound_after n [] = 0
 sound_after (suc n) (b ∷ bs) = suc (sound_after n bs)
-sound_after zero (b ∷ bs) = if sequence (b ∷ bs) == 0 then 0 else suc (sound_after (pred (sequence (b ∷ bs))) bs)
+sound_after zero (b ∷ bs) =
+    if sequence (b ∷ bs) == 0 then 0
+    else suc (sound_after (pred (sequence (b ∷ bs))) bs)
 
 -- The length of the well-formed front of a list: the place of the fault, if it is not the end.
 abbrev pub sound : List ℕ → ℕ

@@ -22,7 +22,7 @@ pub enum Layer {
     Program,
 }
 
-/// What a fault tells, whichever part met it.
+/// What a fault tells, whichever part met it. Users know faults by number.
 #[derive(Clone, Copy, PartialEq, Debug)]
 pub struct Fault {
     pub number: u8,
@@ -31,7 +31,7 @@ pub struct Fault {
 }
 
 impl TextFault {
-    /// The number, place and layer of the fault.
+    /// The number, place and layer of the fault. Each layer has its own definition of them.
     pub fn fault(self) -> Fault
         ensures { result ≡ text_fault self }
     {

@@ -31,6 +31,7 @@ fn sound_len<T: Text>(text: &T) -> u32
 {
     let mut checker = Utf8Checker::new();
     let mut place: u32 = 0;
+    // The place is the answer, less what was taken of a sequence.
     while let Some(byte) = text.byte(place) {
         checker.feed(byte);
         if checker.is_ill() {

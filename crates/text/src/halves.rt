@@ -2,7 +2,7 @@
 
 ghost use Rattle.std.specs.Prelude.{◌≡◌, ◌++◌};
 ghost use Rattle.text.specs.Clip.{clip, clips_short};
-ghost use Rattle.text.specs.Meanings.{halves_bytes};
+ghost use Rattle.text.specs.Meanings.{halves_back, halves_front};
 
 use crate::Text;
 use crate::run::{clipped_byte, clipped_len};
@@ -17,16 +17,16 @@ pub struct Halves<'a> {
 impl<'a> Halves<'a> {
     /// The text of `front` followed by `back`.
     pub fn new(front: &'a [u8], back: &'a [u8]) -> Halves<'a>
-        ensures front { result.front.now ≡ front.now }
-        ensures back { result.back.now ≡ back.now }
-        ensures bytes { halves_bytes result ≡ clip front.now ++ clip back.now }
+        ensures front { halves_front result ≡ front.now }
+        ensures back { halves_back result ≡ back.now }
+        ensures bytes { ⟦<Halves<'a> as Text>⟧.bytes result ≡ clip front.now ++ clip back.now }
     {
         Halves { front, back }
     }
 }
 
 impl<'a> Text for Halves<'a> {
-    ghost bytes = { halves_bytes };
+    ghost bytes = { λ t. clip (halves_front t) ++ clip (halves_back t) };
 
     ghost short = { λ t. clips_short t.front.now t.back.now };
 

@@ -86,9 +86,6 @@ impl Utf8Checker {
     pub fn is_ill(&self) -> bool
         ensures { result ≡ none_left (progress self.now).rows }
     {
-        match self.state {
-            State::Ill { taken: _ } => true,
-            _ => false,
-        }
+        matches!(self.state, State::Ill { .. })
     }
 }
