@@ -7,14 +7,4 @@ use Rattle.lexer.proofs.TokenLaws.{token_laws}
 use Rattle.lexer.specs.AllLaws.{AllLaws}
 
 pub all_laws : AllLaws
-all_laws =
-    record {
-      reads_cut = reads_cut;
-      adds_up = adds_up;
-      between_characters = between_characters;
-      same_tail = same_tail;
-      local = local;
-      same_front = same_front;
-      quotes = quote_laws;
-      tokens = token_laws;
-    }
+all_laws = assumption (reads_cut, adds_up, between_characters, same_tail, local, same_front, quote_laws, token_laws)

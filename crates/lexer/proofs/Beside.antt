@@ -3,12 +3,12 @@ use Rattle.std.proofs.Common.{◌≡◌, ℕ, zero, suc, ◌+◌, ◌<◌, Bool,
 use Rattle.lexer.proofs.Dollars.{opener_within, opens_sign}
 use Rattle.lexer.proofs.Stopped.{at_later, command_stopped, parameter_stopped}
 use Rattle.lexer.specs.Class.{backslash, tag_cont, whitespace}
-use Rattle.lexer.specs.Comment.{closes, comment, commented, opens}
+use Rattle.lexer.specs.Comment.{closes, comment, comment_extent, opens}
 use Rattle.lexer.specs.Extent.{Extent}
 use Rattle.lexer.specs.Cursor.{peek, run}
-use Rattle.lexer.specs.Dollar.{begins, delimited, dollar_delimiter, dollar_len, dollar_opener, dollar_quoted, opens_dollar}
+use Rattle.lexer.specs.Dollar.{begins, delimited, delimited_extent, dollar_delimiter, dollar_len, dollar_opener, dollar_quoted, opens_dollar}
 use Rattle.lexer.specs.Psql.{psql_len}
-use Rattle.lexer.specs.Quoted.{quoted}
+use Rattle.lexer.specs.Quoted.{quoted_extent, quoted}
 use Rattle.std.proofs.lemmas.List.{get_or-drop, get_or-take, length-take-le}
 use Rattle.std.proofs.lemmas.Bool.{and_parts, cond_both, eqb-true}
 use Rattle.std.proofs.lemmas.Bool.Decides.{nat_tests}
@@ -38,20 +38,20 @@ after_any (suc n) b (x ∷ xs) m f =
     subst (λ (k : ℕ). Beside b (x ∷ xs) k) e (later b x xs (n + m) (after_any n x xs m f))
 
 pub quoted_beside : (quote : ℕ) (escapes : Bool) → quote < 128 → (b : ℕ) (xs : List ℕ) → Beside b xs (quoted quote escapes xs)
-unfolding quoted
+unfolding quoted_extent
 quoted_beside q e low b [] = inr (omega arith)
 quoted_beside q e low b (x ∷ []) = inr (omega arith)
 quoted_beside q e low b (x ∷ y ∷ xs) =
     let bs = x ∷ y ∷ xs in
     let two : Beside b bs (2 + quoted q e xs) = two_later b x y xs (quoted q e xs) (quoted_beside q e low y xs) in
     let one : Beside b bs (1 + quoted q e (y ∷ xs)) = later b x (y ∷ xs) (quoted q e (y ∷ xs)) (quoted_beside q e low x (y ∷ xs)) in
-    cond_both (eqb x q) _ _ (Beside b bs)
-    (λ is. cond_both (eqb y q) _ _ (Beside b bs) (λ _. two) (λ _. inl (omega (arith, eqb-true x q is))))
-    (λ _. cond_both (e && backslash x) _ _ (Beside b bs) (λ _. two) (λ _. one))
+    cond_both {A = Extent} (eqb x q && eqb y q) _ _ (λ r. Beside b bs r.len) (λ _. two)
+    (λ _. cond_both {A = Extent} (eqb x q) _ _ (λ r. Beside b bs r.len) (λ is. inl (omega (arith, eqb-true x q is)))
+    (λ _. cond_both {A = Extent} (e && backslash x) _ _ (λ r. Beside b bs r.len) (λ _. two) (λ _. one)))
 
 -- a comment that is closed ends with `/`
 pub comment_beside : (d b : ℕ) → (d ≡ 0 → b < 128) → (xs : List ℕ) → Beside b xs (comment d xs)
-unfolding commented
+unfolding comment_extent
 comment_beside zero b low xs = inl (low refl)
 comment_beside (suc d) b low [] = inr (omega arith)
 comment_beside (suc d) b low (x ∷ []) = inr (omega arith)
@@ -72,10 +72,10 @@ begins_byte (d ∷ ds) (x ∷ xs) e (suc k) h = begins_byte ds xs (and_parts (eq
 
 -- a delimiter whose last byte is ASCII
 delimited_beside : (d : ℕ) (ds : List ℕ) → get_or (d ∷ ds) (length ds) 0 < 128 → (b : ℕ) (xs : List ℕ) → Beside b xs (delimited (d ∷ ds) xs)
-unfolding delimited
+unfolding delimited_extent
 delimited_beside d ds low b [] = inr (omega arith)
 delimited_beside d ds low b (x ∷ xs) =
-    cond_both (begins (d ∷ ds) (x ∷ xs)) _ _ (Beside b (x ∷ xs))
+    cond_both {A = Extent} (begins (d ∷ ds) (x ∷ xs)) _ _ (λ e. Beside b (x ∷ xs) e.len)
     (λ whole. inl (let last = begins_byte (d ∷ ds) (x ∷ xs) whole (length ds) (omega arith) in omega arith))
     (λ _. later b x xs (delimited (d ∷ ds) xs) (delimited_beside d ds low x xs))
 
@@ -108,7 +108,7 @@ pub psql_beside : (b : ℕ) (xs : List ℕ) → Beside b xs (psql_len xs)
 psql_beside b xs =
     cond_both (eqb (peek 0 xs) 92 || (eqb (peek 0 xs) 59 || eqb (peek 0 xs) 58)) _ _ (Beside b xs) (λ h. one_beside b xs (alone_ascii (peek 0 xs) h)) (λ _. inr (command_stopped xs))
 
-blank_ascii : (b : ℕ) → whitespace b ≡ true → b < 128
+pub blank_ascii : (b : ℕ) → whitespace b ≡ true → b < 128
 blank_ascii b h = grind (arith, nat_tests)
 
 pub blanks_beside : (b : ℕ) → b < 128 → (xs : List ℕ) → Beside b xs (run whitespace xs)

@@ -1,79 +1,63 @@
--- One turn of the comment loop.
-use Rattle.std.proofs.Common.{◌≡◌, ℕ, zero, suc, ◌+◌, ◌-◌, ◌<◌, ◌≤◌, Bool, true, false, cond, ◌&&◌, eqb, ◌⊎◌, List, [], ◌∷◌, length, get_or, drop, Some, None, sym, refl, ap, ◌∙◌, inl, inr, arith, eq-eqb, ne_eqb}
-use Rattle.lexer.proofs.Turns.{by_byte, turn}
-use Rattle.lexer.specs.Comment.{closes, comment, commented, opens}
+-- One turn of the comment loop, and how far a comment reaches.
+use Rattle.std.proofs.Common.{◌≡◌, ℕ, zero, suc, ◌+◌, ◌-◌, ◌<◌, ◌≤◌, true, false, List, [], ◌∷◌, length, drop, Option, Some, None, refl, ap, ◌∙◌, arith}
+use Rattle.std.specs.Prelude.{if◌then◌else◌}
+use Rattle.lexer.proofs.Turns.{by_byte, turn_two}
+use Rattle.lexer.specs.Comment.{closes, comment, comment_extent, opens}
 use Rattle.lexer.specs.Extent.{Extent, further}
-use Rattle.std.proofs.lemmas.List.{drop-drop, get_or-drop}
+use Rattle.std.proofs.lemmas.List.{drop-drop}
 use Rattle.std.proofs.lemmas.Bool.{cond_both}
+use Rattle.std.proofs.lemmas.Option.{gets}
 use Rattle.std.specs.List.{slice_get}
 
-and_false : (b : Bool) → (b && false) ≡ false
-and_false true = refl
-and_false false = refl
+-- a comment by its first byte, the one after it, and what follows the first byte, a mark that opens and one that closes
+abbrev by_two : ℕ → Option ℕ → Extent → Extent → Extent → Extent
+by_two a next one deeper shut =
+    by_byte next (further 1 one) (λ b. if opens a b then further 2 deeper else if closes a b then further 2 shut else further 1 one)
 
--- one step, whatever follows the first byte
 step : (d a : ℕ) (xs : List ℕ)
-    → commented (suc d) (a ∷ xs)
-    ≡ cond (opens a (get_or xs 0 0)) (further 2 (commented (suc (suc d)) (drop 1 xs)))
-    (cond (closes a (get_or xs 0 0)) (further 2 (commented d (drop 1 xs))) (further 1 (commented (suc d) xs)))
-unfolding commented
-step d a [] = simp (and_false (eqb a 47), and_false (eqb a 42))
+    → comment_extent (suc d) (a ∷ xs) ≡ by_two a (slice_get xs 0) (comment_extent (suc d) xs) (comment_extent (suc (suc d)) (drop 1 xs)) (comment_extent d (drop 1 xs))
+unfolding comment_extent
+step d a [] = refl
 step d a (b ∷ xs) = refl
 
--- one turn, by the byte at a place and the one after it
-pub commented_turn : (d : ℕ) (xs : List ℕ) (i : ℕ) → commented d (drop i xs)
-    ≡ cond (eqb d 0) (record { len = 0; closed = true })
-    (by_byte (slice_get xs i) (record { len = 0; closed = false })
-    (λ a. cond (opens a (get_or xs (i + 1) 0)) (further 2 (commented (d + 1) (drop (i + 2) xs)))
-    (cond (closes a (get_or xs (i + 1) 0)) (further 2 (commented (d - 1) (drop (i + 2) xs))) (further 1 (commented d (drop (i + 1) xs))))))
-unfolding commented
-commented_turn zero xs i = refl
-commented_turn (suc d) xs i =
-    let second : get_or (drop (i + 1) xs) 0 0 ≡ get_or xs (i + 1) 0 = get_or-drop (i + 1) xs 0 0 ∙ ap (λ k. get_or xs k 0) (omega arith) in
+-- one turn in a comment that is open, by the byte at a place and the one after it
+turn : (d : ℕ) (xs : List ℕ) (i : ℕ) → 0 < d → comment_extent d (drop i xs)
+    ≡ by_byte (slice_get xs i) (record { len = 0; closed = false })
+    (λ a. by_two a (slice_get xs (i + 1)) (comment_extent d (drop (i + 1) xs)) (comment_extent (d + 1) (drop (i + 2) xs)) (comment_extent (d - 1) (drop (i + 2) xs)))
+unfolding comment_extent
+turn zero xs i h = absurd (omega arith)
+turn (suc d) xs i h =
     let beyond : drop 1 (drop (i + 1) xs) ≡ drop (i + 2) xs = drop-drop 1 (i + 1) xs ∙ ap (λ k. drop k xs) (omega arith) in
     let up : suc d + 1 ≡ suc (suc d) = omega arith in
     let down : suc d - 1 ≡ d = omega arith in
-    let some : eqb (suc d) 0 ≡ false = ne_eqb (suc d) 0 (λ h. omega arith) in
-    turn (commented (suc d)) (record { len = 0; closed = false })
-    (λ a ys. cond (opens a (get_or ys 0 0)) (further 2 (commented (suc (suc d)) (drop 1 ys))) (cond (closes a (get_or ys 0 0)) (further 2 (commented d (drop 1 ys))) (further 1 (commented (suc d) ys))))
+    turn_two (comment_extent (suc d)) (record { len = 0; closed = false })
+    (λ a next ys. by_two a next (comment_extent (suc d) ys) (comment_extent (suc (suc d)) (drop 1 ys)) (comment_extent d (drop 1 ys)))
     refl (step d) xs i
-    ∙ simp (second, beyond, up, down, some)
+    ∙ simp (beyond, up, down)
 
--- the same where the bytes are known
-module _ (xs : List ℕ) (i a b : ℕ) (e : Some a ≡ slice_get xs i) (f : b ≡ get_or xs (i + 1) 0) (d : ℕ) (h : 0 < d) where
-  here : commented d (drop i xs)
-      ≡ cond (opens a b) (further 2 (commented (d + 1) (drop (i + 2) xs)))
-      (cond (closes a b) (further 2 (commented (d - 1) (drop (i + 2) xs))) (further 1 (commented d (drop (i + 1) xs))))
-  here = let some : eqb d 0 ≡ false = ne_eqb d 0 (λ z. omega arith) in commented_turn d xs i ∙ simp (some, sym e, sym f)
+module _ (d : ℕ) (xs : List ℕ) (i : ℕ) (h : 0 < d) where
+  pub comment_extent_here : (a : ℕ) → slice_get xs i ≡ Some a → comment_extent d (drop i xs)
+      ≡ by_two a (slice_get xs (i + 1)) (comment_extent d (drop (i + 1) xs)) (comment_extent (d + 1) (drop (i + 2) xs)) (comment_extent (d - 1) (drop (i + 2) xs))
+  comment_extent_here a at = turn d xs i h ∙ simp at
 
-  pub opened : a ≡ 47 → b ≡ 42 → commented d (drop i xs) ≡ further 2 (commented (d + 1) (drop (i + 2) xs))
-  opened p q = here ∙ simp (p, q)
+  pub comment_extent_past : slice_get xs i ≡ None → comment_extent d (drop i xs) ≡ record { len = 0; closed = false }
+  comment_extent_past at = turn d xs i h ∙ simp at
 
-  pub closed : a ≡ 42 → b ≡ 47 → commented d (drop i xs) ≡ further 2 (commented (d - 1) (drop (i + 2) xs))
-  closed p q = here ∙ simp (p, q)
+  pub comment_extent_opens : slice_get xs i ≡ Some 47 → slice_get xs (i + 1) ≡ Some 42 → comment_extent d (drop i xs) ≡ further 2 (comment_extent (d + 1) (drop (i + 2) xs))
+  comment_extent_opens at next = comment_extent_here 47 at ∙ simp next
 
-  pub unmarked : opens a b ≡ false → closes a b ≡ false → commented d (drop i xs) ≡ further 1 (commented d (drop (i + 1) xs))
-  unmarked p q = here ∙ simp (p, q)
+  pub comment_extent_closes : slice_get xs i ≡ Some 42 → slice_get xs (i + 1) ≡ Some 47 → comment_extent d (drop i xs) ≡ further 2 (comment_extent (d - 1) (drop (i + 2) xs))
+  comment_extent_closes at next = comment_extent_here 42 at ∙ simp next
 
-pub commented_past : (xs : List ℕ) (i : ℕ) → None ≡ slice_get xs i → (d : ℕ) → 0 < d → commented d (drop i xs) ≡ record { len = 0; closed = false }
-commented_past xs i e d h = let some : eqb d 0 ≡ false = ne_eqb d 0 (λ z. omega arith) in commented_turn d xs i ∙ simp (some, sym e)
+pub comment_extent_none : (xs : List ℕ) → comment_extent 0 xs ≡ record { len = 0; closed = true }
+unfolding comment_extent
+comment_extent_none xs = refl
 
-pub commented_none : (xs : List ℕ) → commented 0 xs ≡ record { len = 0; closed = true }
-unfolding commented
-commented_none xs = refl
-
--- bytes before bytes before it
-pub further_on : (m n k : ℕ) (e : Extent) → k ≡ m + n → further m (further n e) ≡ further k e
-further_on m n k e h = let same : m + (n + e.len) ≡ k + e.len = omega arith in ap (λ l. record { len = l; closed = e.closed }) same
-
--- what is known past an `if a == x && b == y`
-pub not_both : (a x b y : ℕ) → ((a ≡ x) × (b ≡ y → ⊥)) ⊎ (a ≡ x → ⊥) → (eqb a x && eqb b y) ≡ false
-not_both a x b y (inl h) = simp (eq-eqb a x h.0, ne_eqb b y h.1)
-not_both a x b y (inr h) = simp (ne_eqb a x h)
+pub ruleset comment_turns = (comment_extent_opens, comment_extent_closes, comment_extent_past, comment_extent_none, gets)
 
 -- a comment ends within the list
 pub comment_within : (d : ℕ) (xs : List ℕ) → comment d xs ≤ length xs
-unfolding commented
+unfolding comment_extent
 comment_within zero xs = omega arith
 comment_within (suc d) [] = omega arith
 comment_within (suc d) (a ∷ []) = omega arith

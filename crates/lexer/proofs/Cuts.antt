@@ -1,14 +1,16 @@
 -- The cut is one token after another.
-use Rattle.std.proofs.Common.{◌≡◌, ℕ, zero, suc, ◌+◌, ◌-◌, ◌<◌, ◌≤◌, true, cond, ◌&&◌, eqb, ltb, List, [], ◌∷◌, length, take, drop, Some, None, sym, refl, ap, ◌∙◌, inl, inr, arith, ltb-false, ltb-true, le-ltb, lt-ltb, ne_eqb, eqb-true}
-use Rattle.lexer.proofs.Rest.{within}
+use Rattle.std.proofs.Common.{◌≡◌, ℕ, zero, suc, ◌+◌, ◌-◌, ◌<◌, ◌≤◌, true, cond, ltb, List, [], ◌∷◌, length, take, drop, Some, None, sym, refl, ap, ◌∙◌, inl, inr, arith}
+use Rattle.lexer.proofs.TokenAt.{mark_front}
 use Rattle.lexer.proofs.Within.{lex_within}
-use Rattle.lexer.specs.Cursor.{peek}
-use Rattle.lexer.specs.Cut.{cut, cut_after, lengths, mark}
+use Rattle.lexer.specs.Cut.{cut, cut_after, lengths}
 use Rattle.lexer.specs.Laws.{AddsUp, NoneEmpty, ReadsCut, SameTail, border}
 use Rattle.lexer.specs.Lex.{lex, marked, token_at, token_from}
 use Rattle.lexer.specs.declared.token.Token.{Token}
 use Rattle.std.proofs.lemmas.List.{drop-drop, length-drop}
-use Rattle.std.proofs.lemmas.Bool.{and_parts, cases_Bool}
+use Rattle.std.proofs.lemmas.Bool.{cases_Bool}
+use Rattle.std.proofs.lemmas.Bool.Decides.{nat_tests}
+use Rattle.std.proofs.lemmas.Grind.{common_steps}
+use Rattle.std.proofs.lemmas.Option.{gets}
 use Rattle.std.specs.List.{slice_get}
 
 -- what is covered is passed over
@@ -46,11 +48,7 @@ none_empty (suc n) (x ∷ xs) = none_empty n xs
 
 -- a mark is three bytes
 marked-length : (xs : List ℕ) → marked xs ≡ true → 3 ≤ length xs
-marked-length xs h =
-    let marks = and_parts (eqb (peek 0 xs) 239) (eqb (peek 1 xs) 187 && eqb (peek 2 xs) 191) h in
-    let last = and_parts (eqb (peek 1 xs) 187) (eqb (peek 2 xs) 191) marks.1 in
-    let inside = within xs 2 190 (eqb-true (peek 2 xs) 191 last.1) in
-    omega arith
+marked-length xs m = omega (arith, ap length (mark_front xs m))
 
 pub adds_up : AddsUp
 adds_up xs =
@@ -64,14 +62,16 @@ unfolding cut_after
 ends m = refl
 
 -- the tokens after some of them are those of the bytes after these
-after_border : (m : ℕ) (xs : List ℕ) → drop m (cut_after 0 xs) ≡ cut_after 0 (drop (lengths (take m (cut_after 0 xs))) xs)
+after_border : (m : ℕ) (xs : List ℕ)
+    → drop m (cut_after 0 xs) ≡ cut_after 0 (drop (lengths (take m (cut_after 0 xs))) xs)
 after_border zero xs = refl
 after_border (suc m) [] = ends m
 after_border (suc m) (x ∷ xs) =
     let t = lex x xs in
     let ys = drop t.len (x ∷ xs) in
     let ts = cut_after 0 ys in
-    ap (drop (suc m)) (cut_token x xs) ∙ after_border m ys ∙ ap (cut_after 0) (drop-drop (lengths (take m ts)) t.len (x ∷ xs))
+    ap (drop (suc m)) (cut_token x xs) ∙ after_border m ys
+    ∙ ap (cut_after 0) (drop-drop (lengths (take m ts)) t.len (x ∷ xs))
     ∙ sym (ap (λ l. cut_after 0 (drop (lengths (take (suc m) l)) (x ∷ xs))) (cut_token x xs))
 
 -- the same of a whole text, from its first token's end on
@@ -80,8 +80,11 @@ after_tokens zero xs h = absurd (omega arith)
 after_tokens (suc m) xs h =
     elim (cases_Bool (marked xs)) [
       | inl e ↦
+          let past = cut_drop 3 xs in
           let ts = cut_after 3 xs in
-          simp e (ap (drop m) (cut_drop 3 xs) ∙ after_border m (drop 3 xs) ∙ ap (λ l. cut_after 0 (drop (lengths (take m l)) (drop 3 xs))) (sym (cut_drop 3 xs)) ∙ ap (cut_after 0) (drop-drop (lengths (take m ts)) 3 xs))
+          simp e (ap (drop m) past ∙ after_border m (drop 3 xs)
+          ∙ ap (λ l. cut_after 0 (drop (lengths (take m l)) (drop 3 xs))) (sym past)
+          ∙ ap (cut_after 0) (drop-drop (lengths (take m ts)) 3 xs))
       | inr e ↦ simp e (after_border (suc m) xs)
     ]
 
@@ -92,12 +95,17 @@ same_tail xs ys m n p _ q _ e = after_tokens m xs p ∙ ap (cut_after 0) e ∙ s
 first_token : (xs : List ℕ) → slice_get (cut_after 0 xs) 0 ≡ cond (ltb 0 (length xs)) (Some (token_from xs)) None
 unfolding cut_after
 first_token [] = refl
-first_token (x ∷ xs) = sym (ap (λ b. cond b (Some (lex x xs)) None) (lt-ltb 0 (length (x ∷ xs)) (omega arith)))
+first_token (x ∷ xs) = grind (arith, nat_tests)
+
+-- the token at a place is the first of what follows, but for a byte-order mark
+token_first : (xs : List ℕ) → token_at xs 0 ≡ slice_get (cut xs) 0
+token_first xs = grind (arith, nat_tests, first_token xs)
+
+token_later : (xs : List ℕ) (place : ℕ) → 0 < place → token_at xs place ≡ slice_get (cut_after 0 (drop place xs)) 0
+token_later xs place h = grind (arith, nat_tests, length-drop place xs, first_token (drop place xs))
 
 slice_get_rest : (ts : List Token) (m : ℕ) → slice_get ts m ≡ slice_get (drop m ts) 0
-slice_get_rest ts zero = refl
-slice_get_rest [] (suc m) = refl
-slice_get_rest (t ∷ ts) (suc m) = slice_get_rest ts m
+slice_get_rest ts m = grind (arith, common_steps, gets)
 
 -- the first token ends after place 0, unless the text is empty
 tokens_cover : (ts : List Token) (m : ℕ) → NoneEmpty ts → 0 < lengths ts → 0 < lengths (take (suc m) ts)
@@ -109,26 +117,11 @@ unfolding cut_after
 none_read m = refl
 
 pub reads_cut : ReadsCut
-reads_cut xs zero =
-    elim (cases_Bool (marked xs)) [
-      | inl e ↦ simp e
-      | inr e ↦ simp e (sym (first_token xs))
-    ]
+reads_cut xs zero = token_first xs
 reads_cut [] (suc m) = none_read m
 reads_cut (x ∷ xs) (suc m) =
     let bs = x ∷ xs in
-    let p = border bs (suc m) in
     let all = adds_up bs in
     let past = tokens_cover (cut bs) m all.1 (omega (arith, all.0)) in
-    let later = ne_eqb p 0 (λ z. omega (arith, z)) in
-    let next = slice_get_rest (cut bs) (suc m) ∙ ap (λ l. slice_get l 0) (after_tokens (suc m) bs (omega arith)) ∙ first_token (drop p bs) in
-    let left = length-drop p bs in
-    let here = ap (λ b. cond (b && marked bs) (Some mark) (cond (ltb p (length bs)) (Some (token_from (drop p bs))) None)) later in
-    elim (cases_Bool (ltb p (length bs))) [
-      | inl e ↦
-          let within = ltb-true p (length bs) e in
-          here ∙ ap (λ b. cond b (Some (token_from (drop p bs))) None) (e ∙ sym (lt-ltb 0 (length (drop p bs)) (omega arith))) ∙ sym next
-      | inr e ↦
-          let beyond = ltb-false p (length bs) e in
-          here ∙ ap (λ b. cond b (Some (token_from (drop p bs))) None) (e ∙ sym (le-ltb 0 (length (drop p bs)) (omega arith))) ∙ sym next
-    ]
+    token_later bs (border bs (suc m)) past ∙ sym (ap (λ l. slice_get l 0) (after_tokens (suc m) bs (omega arith)))
+    ∙ sym (slice_get_rest (cut bs) (suc m))

@@ -9,7 +9,8 @@ abbrev pub Decided : {Y : Type 0} → (List ℕ → ℕ) → (List ℕ → Y) �
 Decided f g = (p s t : List ℕ) → f (p ++ s) + 2 ≤ length p → g (p ++ t) ≡ g (p ++ s)
 
 -- a test that comes out alike, and what is chosen by it
-pub alike : {Y : Type 0} (b : Bool) (n m : ℕ) {l : ℕ} {y z u v : Y} → (n + 2 ≤ l → y ≡ u) → (m + 2 ≤ l → z ≡ v) → cond b n m + 2 ≤ l → cond b y z ≡ cond b u v
+pub alike : {Y : Type 0} (b : Bool) (n m : ℕ) {l : ℕ} {y z u v : Y} → (n + 2 ≤ l → y ≡ u) → (m + 2 ≤ l → z ≡ v)
+    → cond b n m + 2 ≤ l → cond b y z ≡ cond b u v
 alike true n m f g h = f h
 alike false n m f g h = g h
 
@@ -24,21 +25,25 @@ module _ {Y : Type 0} where
   pub wider : (f e : List ℕ → ℕ) (g : List ℕ → Y) → ((xs : List ℕ) → f xs ≤ e xs) → Decided f g → Decided e g
   wider f e g le d p s t h = let less = le (p ++ s) in d p s t (omega arith)
 
-  pub chosen : (b : List ℕ → Bool) (f e : List ℕ → ℕ) (g h : List ℕ → Y) → Decided (λ xs. cond (b xs) (f xs) (e xs)) b → Decided f g → Decided e h
-      → Decided (λ xs. cond (b xs) (f xs) (e xs)) (λ xs. cond (b xs) (g xs) (h xs))
+  pub chosen : (b : List ℕ → Bool) (f e : List ℕ → ℕ) (g h : List ℕ → Y) → Decided (λ xs. cond (b xs) (f xs) (e xs)) b
+      → Decided f g → Decided e h → Decided (λ xs. cond (b xs) (f xs) (e xs)) (λ xs. cond (b xs) (g xs) (h xs))
   chosen b f e g h same first second p s t room =
-      ap (λ c. cond c (g (p ++ t)) (h (p ++ t))) (same p s t room) ∙ alike (b (p ++ s)) (f (p ++ s)) (e (p ++ s)) (first p s t) (second p s t) room
+      ap (λ c. cond c (g (p ++ t)) (h (p ++ t))) (same p s t room)
+      ∙ alike (b (p ++ s)) (f (p ++ s)) (e (p ++ s)) (first p s t) (second p s t) room
 
   -- what goes by the first two bytes, and by more as these say
-  pub by_front : {K : Type 0} (k : ℕ → ℕ → K) (f : K → List ℕ → ℕ) (g : K → List ℕ → Y) → ((j : K) → Decided (f j) (g j))
+  pub by_front : {K : Type 0} (k : ℕ → ℕ → K) (f : K → List ℕ → ℕ) (g : K → List ℕ → Y)
+      → ((j : K) → Decided (f j) (g j))
       → Decided (λ xs. f (k (peek 0 xs) (peek 1 xs)) xs) (λ xs. g (k (peek 0 xs) (peek 1 xs)) xs)
   by_front k f g d [] s t h = absurd (omega arith)
   by_front k f g d (x ∷ []) s t h = absurd (omega arith)
   by_front k f g d (x ∷ y ∷ p) s t h = d (k x y) (x ∷ y ∷ p) s t h
 
   -- one thing, and another that follows it and may go by what the first is
-  module _ (f : List ℕ → ℕ) (e : ℕ → List ℕ → List ℕ → ℕ) (g : ℕ → List ℕ → List ℕ → Y) (front : Decided f f) (behind : (n : ℕ) (w : List ℕ) → Decided (e n w) (g n w)) where
-    pub in_turn : Decided (λ xs. f xs + e (f xs) (take (f xs) xs) (drop (f xs) xs)) (λ xs. g (f xs) (take (f xs) xs) (drop (f xs) xs))
+  module _ (f : List ℕ → ℕ) (e : ℕ → List ℕ → List ℕ → ℕ) (g : ℕ → List ℕ → List ℕ → Y) (front : Decided f f)
+      (behind : (n : ℕ) (w : List ℕ) → Decided (e n w) (g n w)) where
+    pub in_turn : Decided (λ xs. f xs + e (f xs) (take (f xs) xs) (drop (f xs) xs))
+        (λ xs. g (f xs) (take (f xs) xs) (drop (f xs) xs))
     in_turn p s t h =
         let n = f (p ++ s) in
         let w = take n p in
@@ -51,19 +56,29 @@ module _ {Y : Type 0} where
         ap (λ l. e n l (drop n (p ++ s))) (take-append-le n p s room) ∙ ap (e n w) (drop-append-le n p s room)
         in
         let left = length-drop n p in
-        ap (λ m. g m (take m (p ++ t)) (drop m (p ++ t))) same ∙ split t ∙ behind n w (drop n p) s t (omega arith) ∙ sym (split s)
+        ap (λ m. g m (take m (p ++ t)) (drop m (p ++ t))) same ∙ split t ∙ behind n w (drop n p) s t (omega arith)
+        ∙ sym (split s)
 
 -- the length of both
-pub both_counted : (f e : List ℕ → ℕ) → Decided f f → Decided e e → Decided (λ xs. f xs + e (drop (f xs) xs)) (λ xs. f xs + e (drop (f xs) xs))
-both_counted f e front behind = in_turn f (λ _ _ xs. e xs) (λ n _ xs. n + e xs) front (λ n _ p s t h. ap (λ m. n + m) (behind p s t h))
+pub both_counted : (f e : List ℕ → ℕ) → Decided f f → Decided e e
+    → Decided (λ xs. f xs + e (drop (f xs) xs)) (λ xs. f xs + e (drop (f xs) xs))
+both_counted f e front behind =
+    in_turn f (λ _ _ xs. e xs) (λ n _ xs. n + e xs) front (λ n _ p s t h. ap (λ m. n + m) (behind p s t h))
+
+-- one length or another
+pub chosen_counted : (b : List ℕ → Bool) (f e : List ℕ → ℕ) → Decided (λ xs. cond (b xs) (f xs) (e xs)) b → Decided f f
+    → Decided e e → Decided (λ xs. cond (b xs) (f xs) (e xs)) (λ xs. cond (b xs) (f xs) (e xs))
+chosen_counted b f e same first second = chosen b f e f e same first second
 
 -- the same after so many bytes
-pub past : {Y : Type 0} (n : ℕ) (f : List ℕ → ℕ) (g : List ℕ → Y) → Decided f g → Decided (λ xs. n + f (drop n xs)) (λ xs. g (drop n xs))
+pub past : {Y : Type 0} (n : ℕ) (f : List ℕ → ℕ) (g : List ℕ → Y) → Decided f g
+    → Decided (λ xs. n + f (drop n xs)) (λ xs. g (drop n xs))
 past n f g d = in_turn (λ _. n) (λ _ _ xs. f xs) (λ _ _ xs. g xs) (λ _ _ _ _. refl) (λ _ _. d)
 
 pub past_counted : (n : ℕ) (f : List ℕ → ℕ) → Decided f f → Decided (λ xs. n + f (drop n xs)) (λ xs. n + f (drop n xs))
 past_counted n f d = both_counted (λ _. n) f (λ _ _ _ _. refl) d
 
 -- what the first of two goes by, both go by
-pub first_of : {Y : Type 0} (f e : List ℕ → ℕ) (g : List ℕ → Y) → Decided f g → Decided (λ xs. f xs + e (drop (f xs) xs)) g
+pub first_of : {Y : Type 0} (f e : List ℕ → ℕ) (g : List ℕ → Y) → Decided f g
+    → Decided (λ xs. f xs + e (drop (f xs) xs)) g
 first_of f e g d = wider f (λ xs. f xs + e (drop (f xs) xs)) g (λ xs. omega arith) d

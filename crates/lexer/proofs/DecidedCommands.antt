@@ -1,6 +1,6 @@
 -- A psql command goes by its own bytes and the two after it.
-use Rattle.std.proofs.Common.{None, ◌≡◌, ℕ, ◌+◌, ◌≤◌, Bool, true, false, cond, ◌&&◌, ◌||◌, eqb, List, [], ◌∷◌, ◌++◌, length, refl, ap, arith}
-use Rattle.lexer.proofs.Decided.{Decided, both_counted, chosen, in_turn, seen}
+use Rattle.std.proofs.Common.{None, ◌≡◌, ℕ, ◌+◌, ◌≤◌, Bool, false, cond, ◌&&◌, ◌||◌, eqb, List, [], ◌∷◌, ◌++◌, length, refl, ap, arith}
+use Rattle.lexer.proofs.Decided.{Decided, both_counted, chosen_counted, in_turn, seen}
 use Rattle.lexer.proofs.DecidedParts.{arguments_decided, options_decided, run_decided}
 use Rattle.lexer.specs.Class.{all_but, command_letter, line_blank}
 use Rattle.lexer.specs.Cursor.{peek, run}
@@ -13,18 +13,20 @@ use Rattle.lexer.specs.declared.token.TokenKind.TheVariants.{Colon, PsqlCommand,
 module _ (k : Command) where
   opened_decided : Decided (opened_options k) (opened_options k)
   opened_decided =
-      chosen (λ xs. k.takes_options && eqb (peek 0 xs) 40) (options Outside None) (λ _. 0) (options Outside None) (λ _. 0) (seen (opened_options k) (λ a _. k.takes_options && eqb a 40)) (options_decided Outside None) (λ _ _ _ _. refl)
+      chosen_counted (λ xs. k.takes_options && eqb (peek 0 xs) 40) (options Outside None) (λ _. 0)
+      (seen (opened_options k) (λ a _. k.takes_options && eqb a 40)) (options_decided Outside None) (λ _ _ _ _. refl)
 
   before_decided : Decided (before_pipe k) (before_pipe k)
   before_decided =
-      let open_up = followed (run line_blank) (opened_options k) in
-      chosen (λ _. k.takes_pipe) open_up (λ _. 0) open_up (λ _. 0) (λ _ _ _ _. refl) (both_counted (run line_blank) (opened_options k) (run_decided line_blank) opened_decided) (λ _ _ _ _. refl)
+      chosen_counted (λ _. k.takes_pipe) (followed (run line_blank) (opened_options k)) (λ _. 0) (λ _ _ _ _. refl)
+      (both_counted (run line_blank) (opened_options k) (run_decided line_blank) opened_decided) (λ _ _ _ _. refl)
 
   follows_decided : Decided (what_follows k) (what_follows k)
   follows_decided =
-      let line = run (all_but 10 13) in
-      let rest = arguments Outside in
-      chosen (λ xs. k.reads_line || (k.takes_pipe && eqb (peek 0 xs) 124)) line rest line rest (seen (what_follows k) (λ a _. k.reads_line || (k.takes_pipe && eqb a 124))) (run_decided (all_but 10 13)) (arguments_decided Outside)
+      chosen_counted (λ xs. k.reads_line || (k.takes_pipe && eqb (peek 0 xs) 124)) (run (all_but 10 13))
+      (arguments Outside)
+      (seen (what_follows k) (λ a _. k.reads_line || (k.takes_pipe && eqb a 124)))
+      (run_decided (all_but 10 13)) (arguments_decided Outside)
 
   tail_decided : Decided (followed (before_pipe k) (what_follows k)) (followed (before_pipe k) (what_follows k))
   tail_decided = both_counted (before_pipe k) (what_follows k) before_decided follows_decided
@@ -34,23 +36,26 @@ abbrev tail : List ℕ → List ℕ → ℕ
 tail w = followed (before_pipe (meaning w)) (what_follows (meaning w))
 
 command_len_decided : Decided command_len command_len
-command_len_decided = in_turn (run command_letter) (λ _. tail) (λ n w xs. n + tail w xs) (run_decided command_letter) (λ n w p s t h. ap (λ m. n + m) (tail_decided (meaning w) p s t h))
+command_len_decided =
+    in_turn (run command_letter) (λ _. tail) (λ n w xs. n + tail w xs) (run_decided command_letter)
+    (λ n w p s t h. ap (λ m. n + m) (tail_decided (meaning w) p s t h))
 
 command_decided : Decided command_len command
-command_decided = in_turn (run command_letter) (λ _. tail) (λ _ w _. meaning w) (run_decided command_letter) (λ _ _ _ _ _ _. refl)
+command_decided =
+    in_turn (run command_letter) (λ _. tail) (λ _ w _. meaning w) (run_decided command_letter) (λ _ _ _ _ _ _. refl)
 
 pub psql_len_decided : Decided psql_len psql_len
 psql_len_decided =
-    chosen (λ xs. eqb (peek 0 xs) 92 || (eqb (peek 0 xs) 59 || eqb (peek 0 xs) 58)) (λ _. 1) command_len (λ _. 1) command_len (seen psql_len (λ a _. eqb a 92 || (eqb a 59 || eqb a 58))) (λ _ _ _ _. refl) command_len_decided
+    chosen_counted (λ xs. eqb (peek 0 xs) 92 || (eqb (peek 0 xs) 59 || eqb (peek 0 xs) 58)) (λ _. 1) command_len
+    (seen psql_len (λ a _. eqb a 92 || (eqb a 59 || eqb a 58))) (λ _ _ _ _. refl) command_len_decided
 
 -- three tests that all come out alike
-alike_but_last : {Y : Type 0} (a b c : Bool) (n l : ℕ) (u v w : Y) {y z : Y} → (n + 2 ≤ l → y ≡ z) → cond (a || (b || c)) 1 n + 2 ≤ l → cond a u (cond b v (cond c w y)) ≡ cond a u (cond b v (cond c w z))
-alike_but_last true b c n l u v w f h = refl
-alike_but_last false true c n l u v w f h = refl
-alike_but_last false false true n l u v w f h = refl
-alike_but_last false false false n l u v w f h = f h
+alike_but_last : {Y : Type 0} (a b c : Bool) (n l : ℕ) (u v w : Y) {y z : Y} → (n + 2 ≤ l → y ≡ z)
+    → cond (a || (b || c)) 1 n + 2 ≤ l → cond a u (cond b v (cond c w y)) ≡ cond a u (cond b v (cond c w z))
+alike_but_last a b c n l u v w f h = grind arith
 
 pub psql_kind_decided : Decided psql_len psql_kind
 psql_kind_decided [] s t h = absurd (omega arith)
 psql_kind_decided (x ∷ p) s t h =
-    alike_but_last (eqb x 92) (eqb x 59) (eqb x 58) (command_len (x ∷ p ++ s)) (length (x ∷ p)) (PsqlCommand false) Semi Colon (λ k. ap (λ c. PsqlCommand c.ends_query) (command_decided (x ∷ p) s t k)) h
+    alike_but_last (eqb x 92) (eqb x 59) (eqb x 58) (command_len (x ∷ p ++ s)) (length (x ∷ p))
+    (PsqlCommand false) Semi Colon (λ k. ap (λ c. PsqlCommand c.ends_query) (command_decided (x ∷ p) s t k)) h

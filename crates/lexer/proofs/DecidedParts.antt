@@ -1,17 +1,17 @@
 -- Each part of a token goes by its own bytes and the two after it.
-use Rattle.std.proofs.Common.{Option, None, ◌≡◌, ℕ, zero, suc, ◌+◌, ◌≤◌, Bool, true, false, cond, ◌&&◌, ◌||◌, eqb, List, [], ◌∷◌, ◌++◌, length, refl, ap, ◌∙◌, inl, inr, arith}
+use Rattle.std.proofs.Common.{Option, None, ◌≡◌, ℕ, zero, suc, ◌+◌, ◌≤◌, Bool, true, false, cond, ◌&&◌, ◌||◌, eqb, List, [], ◌∷◌, ◌++◌, length, refl, ap, ◌∙◌, arith}
 use Rattle.lexer.proofs.Decided.{Decided, alike, chosen}
 use Rattle.lexer.specs.Class.{backslash, ident_cont, ident_start, line_blank}
-use Rattle.lexer.specs.Comment.{closes, comment, comment_closed, commented, opens}
-use Rattle.lexer.specs.Extent.{further}
+use Rattle.lexer.specs.Comment.{closes, comment, comment_closed, comment_extent, opens}
+use Rattle.lexer.specs.Extent.{Extent, further}
 use Rattle.lexer.specs.Cursor.{digit_met, digits, identifier, leads, run}
-use Rattle.lexer.specs.Dollar.{begins, delimited, delimited_closed}
+use Rattle.lexer.specs.Dollar.{begins, delimited, delimited_closed, delimited_extent}
 use Rattle.lexer.specs.PsqlArg.{after, arguments, is_parenthesis, last_after, options, separates, stops}
-use Rattle.lexer.specs.Quoted.{quoted, quoted_closed}
+use Rattle.lexer.specs.Quoted.{quoted_extent, quoted, quoted_closed}
 use Rattle.lexer.specs.declared.psql_arg.ArgState.{ArgState}
 use Rattle.lexer.specs.declared.psql_arg.ArgState.TheVariants.{Outside}
 use Rattle.std.proofs.lemmas.List.{length-append}
-use Rattle.std.proofs.lemmas.Bool.{cases_Bool}
+use Rattle.std.proofs.lemmas.Bool.{cond_both}
 
 -- the same, where what is chosen holds the count
 alike_by : {Y : Type 0} (count : Y → ℕ) (b : Bool) {l : ℕ} {y z u v : Y} → (count u + 2 ≤ l → y ≡ u) → (count v + 2 ≤ l → z ≡ v) → count (cond b u v) + 2 ≤ l → cond b y z ≡ cond b u v
@@ -49,46 +49,42 @@ module _ (digit : ℕ → Bool) where
   met_decided (x ∷ []) s t h = absurd (omega arith)
   met_decided (x ∷ y ∷ p) s t h = met_alike (digit x) (eqb x 95 && digit y) (1 + digits digit (y ∷ p ++ s)) (length (x ∷ y ∷ p)) (λ k. met_decided (y ∷ p) s t (omega arith)) h
 
-pub commented_decided : (d : ℕ) → Decided (comment d) (commented d)
-unfolding commented
-commented_decided zero p s t h = refl
-commented_decided (suc d) [] s t h = absurd (omega arith)
-commented_decided (suc d) (a ∷ []) s t h = absurd (omega arith)
-commented_decided (suc d) (a ∷ b ∷ p) s t h =
+pub comment_extent_decided : (d : ℕ) → Decided (comment d) (comment_extent d)
+unfolding comment_extent
+comment_extent_decided zero p s t h = refl
+comment_extent_decided (suc d) [] s t h = absurd (omega arith)
+comment_extent_decided (suc d) (a ∷ []) s t h = absurd (omega arith)
+comment_extent_decided (suc d) (a ∷ b ∷ p) s t h =
     alike_by (λ e. e.len) (opens a b)
-    (λ k. ap (further 2) (commented_decided (suc (suc d)) p s t (omega arith)))
+    (λ k. ap (further 2) (comment_extent_decided (suc (suc d)) p s t (omega arith)))
     (alike_by (λ e. e.len) (closes a b)
-    (λ k. ap (further 2) (commented_decided d p s t (omega arith)))
-    (λ k. ap (further 1) (commented_decided (suc d) (b ∷ p) s t (omega arith)))) h
+    (λ k. ap (further 2) (comment_extent_decided d p s t (omega arith)))
+    (λ k. ap (further 1) (comment_extent_decided (suc d) (b ∷ p) s t (omega arith)))) h
 
 pub comment_decided : (d : ℕ) → Decided (comment d) (comment d)
-comment_decided d p s t h = ap (λ e. e.len) (commented_decided d p s t h)
+comment_decided d p s t h = ap (λ e. e.len) (comment_extent_decided d p s t h)
 
 pub comment_closed_decided : (d : ℕ) → Decided (comment d) (comment_closed d)
-comment_closed_decided d p s t h = ap (λ e. e.closed) (commented_decided d p s t h)
+comment_closed_decided d p s t h = ap (λ e. e.closed) (comment_extent_decided d p s t h)
 
 module _ (quote : ℕ) (escapes : Bool) where
+  quoted_extent_decided : Decided (quoted quote escapes) (quoted_extent quote escapes)
+  unfolding quoted_extent
+  quoted_extent_decided [] s t h = absurd (omega arith)
+  quoted_extent_decided (x ∷ []) s t h = absurd (omega arith)
+  quoted_extent_decided (x ∷ y ∷ p) s t h =
+      alike_by (λ e. e.len) (eqb x quote && eqb y quote)
+      (λ k. ap (further 2) (quoted_extent_decided p s t (omega arith)))
+      (alike_by (λ e. e.len) (eqb x quote) (λ _. refl)
+      (alike_by (λ e. e.len) (escapes && backslash x)
+      (λ k. ap (further 2) (quoted_extent_decided p s t (omega arith)))
+      (λ k. ap (further 1) (quoted_extent_decided (y ∷ p) s t (omega arith))))) h
+
   pub quoted_decided : Decided (quoted quote escapes) (quoted quote escapes)
-  unfolding quoted
-  quoted_decided [] s t h = absurd (omega arith)
-  quoted_decided (x ∷ []) s t h = absurd (omega arith)
-  quoted_decided (x ∷ y ∷ p) s t h =
-      let two = 2 + quoted quote escapes (p ++ s) in
-      let one = 1 + quoted quote escapes (y ∷ p ++ s) in
-      alike (eqb x quote) (cond (eqb y quote) two 1) (cond (escapes && backslash x) two one)
-      (alike (eqb y quote) two 1 (λ k. ap (λ n. 2 + n) (quoted_decided p s t (omega arith))) (λ _. refl))
-      (alike (escapes && backslash x) two one (λ k. ap (λ n. 2 + n) (quoted_decided p s t (omega arith))) (λ k. ap (λ n. 1 + n) (quoted_decided (y ∷ p) s t (omega arith)))) h
+  quoted_decided p s t h = ap (λ e. e.len) (quoted_extent_decided p s t h)
 
   pub quoted_closed_decided : Decided (quoted quote escapes) (quoted_closed quote escapes)
-  unfolding quoted quoted_closed
-  quoted_closed_decided [] s t h = absurd (omega arith)
-  quoted_closed_decided (x ∷ []) s t h = absurd (omega arith)
-  quoted_closed_decided (x ∷ y ∷ p) s t h =
-      let two = 2 + quoted quote escapes (p ++ s) in
-      let one = 1 + quoted quote escapes (y ∷ p ++ s) in
-      alike (eqb x quote) (cond (eqb y quote) two 1) (cond (escapes && backslash x) two one)
-      (alike (eqb y quote) two 1 (λ k. quoted_closed_decided p s t (omega arith)) (λ _. refl))
-      (alike (escapes && backslash x) two one (λ k. quoted_closed_decided p s t (omega arith)) (λ k. quoted_closed_decided (y ∷ p) s t (omega arith))) h
+  quoted_closed_decided p s t h = ap (λ e. e.closed) (quoted_extent_decided p s t h)
 
 pub arguments_decided : (state : ArgState) → Decided (arguments state) (arguments state)
 unfolding arguments
@@ -103,10 +99,11 @@ options_decided state last (x ∷ p) s t h =
     let next = 1 + options Outside None (p ++ s) in
     let blanks = run line_blank (x ∷ p ++ s) in
     let more = 1 + options (after state x) (last_after state last x) (p ++ s) in
-    alike (stops state x) 0 (cond (separates state x) (cond (is_parenthesis last) blanks next) more) (λ _. refl)
-    (alike (separates state x) (cond (is_parenthesis last) blanks next) more
-    (alike (is_parenthesis last) blanks next (run_decided line_blank (x ∷ p) s t) (λ k. ap (λ n. 1 + n) (options_decided Outside None p s t (omega arith))))
-    (λ k. ap (λ n. 1 + n) (options_decided (after state x) (last_after state last x) p s t (omega arith)))) h
+    alike (stops state x) 0 (cond (separates state x && is_parenthesis last) blanks (cond (separates state x) next more)) (λ _. refl)
+    (alike (separates state x && is_parenthesis last) blanks (cond (separates state x) next more) (run_decided line_blank (x ∷ p) s t)
+    (alike (separates state x) next more
+    (λ k. ap (λ n. 1 + n) (options_decided Outside None p s t (omega arith)))
+    (λ k. ap (λ n. 1 + n) (options_decided (after state x) (last_after state last x) p s t (omega arith))))) h
 
 -- a delimiter is found, or not, within as many bytes as it has
 begins_front : (ds p s t : List ℕ) → length ds ≤ length p → begins ds (p ++ t) ≡ begins ds (p ++ s)
@@ -117,13 +114,12 @@ begins_front (d ∷ ds) (x ∷ p) s t h = ap (λ b. eqb d x && b) (begins_front 
 
 -- a string that ends before the list does ends with its delimiter
 delimited_whole : (ds xs : List ℕ) → suc (delimited ds xs) ≤ length xs → length ds ≤ delimited ds xs
-unfolding delimited
-delimited_whole ds [] h = absurd (omega arith)
-delimited_whole ds (x ∷ xs) h =
-    elim (cases_Bool (begins ds (x ∷ xs))) [
-      | inl e ↦ simp e (omega arith)
-      | inr e ↦ let more = delimited_whole ds xs (let k = simp e at h in omega arith) in simp e (omega arith)
-    ]
+unfolding delimited_extent
+delimited_whole ds [] = λ h. absurd (omega arith)
+delimited_whole ds (x ∷ xs) =
+    cond_both {A = Extent} (begins ds (x ∷ xs)) _ _ (λ e. suc e.len ≤ length (x ∷ xs) → length ds ≤ e.len)
+    (λ _ h. omega arith)
+    (λ _ h. let more = delimited_whole ds xs (omega arith) in omega arith)
 
 module _ (ds : List ℕ) where
   delimiter_fits : (p s : List ℕ) → delimited ds (p ++ s) + 2 ≤ length p → length ds ≤ length p
@@ -132,16 +128,15 @@ module _ (ds : List ℕ) where
       let whole = delimited_whole ds (p ++ s) (omega arith) in
       omega arith
 
+  extent_decided : Decided (delimited ds) (delimited_extent ds)
+  unfolding delimited_extent
+  extent_decided [] s t h = absurd (omega arith)
+  extent_decided (x ∷ p) s t h =
+      ap (λ b. cond b (record { len = length ds; closed = true }) (further 1 (delimited_extent ds (p ++ t)))) (begins_front ds (x ∷ p) s t (delimiter_fits (x ∷ p) s h))
+      ∙ alike_by (λ e. e.len) (begins ds (x ∷ p ++ s)) (λ _. refl) (λ k. ap (further 1) (extent_decided p s t (omega arith))) h
+
   pub delimited_decided : Decided (delimited ds) (delimited ds)
-  unfolding delimited
-  delimited_decided [] s t h = absurd (omega arith)
-  delimited_decided (x ∷ p) s t h =
-      ap (λ b. cond b (length ds) (1 + delimited ds (p ++ t))) (begins_front ds (x ∷ p) s t (delimiter_fits (x ∷ p) s h))
-      ∙ alike (begins ds (x ∷ p ++ s)) (length ds) (1 + delimited ds (p ++ s)) (λ _. refl) (λ k. ap (λ n. 1 + n) (delimited_decided p s t (omega arith))) h
+  delimited_decided p s t h = ap (λ e. e.len) (extent_decided p s t h)
 
   pub delimited_closed_decided : Decided (delimited ds) (delimited_closed ds)
-  unfolding delimited delimited_closed
-  delimited_closed_decided [] s t h = absurd (omega arith)
-  delimited_closed_decided (x ∷ p) s t h =
-      ap (λ b. cond b true (delimited_closed ds (p ++ t))) (begins_front ds (x ∷ p) s t (delimiter_fits (x ∷ p) s h))
-      ∙ alike (begins ds (x ∷ p ++ s)) (length ds) (1 + delimited ds (p ++ s)) (λ _. refl) (λ k. delimited_closed_decided p s t (omega arith)) h
+  delimited_closed_decided p s t h = ap (λ e. e.closed) (extent_decided p s t h)

@@ -1,11 +1,11 @@
 -- A dollar quote's delimiter, and the first place where it stands again.
 use Rattle.std.proofs.Common.{◌≡◌, ℕ, zero, suc, ◌+◌, ◌<◌, ◌≤◌, true, false, ◌&&◌, eqb, List, [], ◌∷◌, ◌++◌, length, take, drop, sym, refl, ap, ◌∙◌, subst, inl, inr, arith, eq-eqb, eqb-true}
 use Rattle.lexer.proofs.Bodies.{cons_same}
-use Rattle.lexer.proofs.Dollars.{opener_within, opens_sign}
+use Rattle.lexer.proofs.Dollars.{extent_found, extent_more, opener_within, opens_sign}
 use Rattle.lexer.proofs.Rest.{within}
 use Rattle.lexer.specs.Class.{ident_start, tag_cont}
 use Rattle.lexer.specs.Cursor.{peek, run}
-use Rattle.lexer.specs.Dollar.{begins, delimited, delimited_closed, dollar_delimiter, dollar_opener, opens_dollar}
+use Rattle.lexer.specs.Dollar.{begins, delimited, delimited_closed, delimited_extent, dollar_delimiter, dollar_opener, opens_dollar}
 use Rattle.lexer.specs.QuoteLaws.{Tag, TagRest, delimiter}
 use Rattle.std.proofs.lemmas.List.{length-append, length-drop, length-take-le, take-append-drop, take_more}
 use Rattle.std.proofs.lemmas.Bool.{and_from, and_parts, cases_Bool, or_cases}
@@ -32,37 +32,43 @@ module _ (ds : List ℕ) where
 
   pub delimited_splits : (xs : List ℕ) → delimited_closed ds xs ≡ true
       → (body : List ℕ) × (rest : List ℕ) × (xs ≡ body ++ (ds ++ rest)) × (delimited ds xs ≡ length body + length ds) × ((front back : List ℕ) → xs ≡ front ++ (ds ++ back) → length body ≤ length front)
-  unfolding delimited delimited_closed
+  unfolding delimited_extent
   delimited_splits [] h = absurd (clash h)
   delimited_splits (x ∷ xs) h =
       elim (cases_Bool (begins ds (x ∷ xs))) [
-        | inl here ↦ ([], drop (length ds) (x ∷ xs), begins_split ds (x ∷ xs) here, simp here (omega arith), λ front back e. omega arith)
+        | inl here ↦
+            let reach = ap (λ e. e.len) (extent_found ds (x ∷ xs) 0 (omega arith) here) in
+            ([], drop (length ds) (x ∷ xs), begins_split ds (x ∷ xs) here, omega arith, λ front back e. omega arith)
         | inr none ↦
-            let more = delimited_splits xs (simp none at h) in
-            let reach = more.3 in (
+            let one = extent_more ds (x ∷ xs) 0 (omega arith) none in
+            let more = delimited_splits xs (sym (ap (λ e. e.closed) one) ∙ h) in
+            let reach = ap (λ e. e.len) one in
+            let long = more.3 in (
               x ∷ more.0,
               more.1,
               cons_same refl more.2,
-              simp none (omega arith),
+              omega arith,
               λ front back e.
                   let on = later x xs none front back e in
                   let short = more.4 (drop 1 front) back on.1 in
                   let some = on.0 in
-                  let one = length-drop 1 front in
+                  let left = length-drop 1 front in
                   omega arith,
             )
       ]
 
   pub delimited_runs : 0 < length ds → (xs : List ℕ) → delimited_closed ds xs ≡ false → (delimited ds xs ≡ length xs) × ((front back : List ℕ) → xs ≡ front ++ (ds ++ back) → ⊥)
-  unfolding delimited delimited_closed
+  unfolding delimited_extent
   delimited_runs some [] h = (refl, λ front back e. let same = simp length-append at (ap length e) in omega arith)
   delimited_runs some (x ∷ xs) h =
       elim (cases_Bool (begins ds (x ∷ xs))) [
-        | inl here ↦ absurd (clash (sym (simp here at h)))
+        | inl here ↦ absurd (clash (sym h ∙ ap (λ e. e.closed) (extent_found ds (x ∷ xs) 0 (omega arith) here)))
         | inr none ↦
-            let more = delimited_runs some xs (simp none at h) in
-            let reach = more.0 in
-            (simp none (omega arith), λ front back e. more.1 (drop 1 front) back (later x xs none front back e).1)
+            let one = extent_more ds (x ∷ xs) 0 (omega arith) none in
+            let more = delimited_runs some xs (sym (ap (λ e. e.closed) one) ∙ h) in
+            let reach = ap (λ e. e.len) one in
+            let long = more.0 in
+            (omega arith, λ front back e. more.1 (drop 1 front) back (later x xs none front back e).1)
       ]
 
 tag_rest : (n : ℕ) (xs : List ℕ) → n ≤ run tag_cont xs → TagRest (take n xs)
@@ -91,7 +97,9 @@ module _ (xs : List ℕ) (opens : opens_dollar xs ≡ true) where
       cons_same refl (take_more xs n 0 (within xs n 35 sign) ∙ ap (λ b. take n xs ++ (b ∷ [])) sign)
 
   pub opener_split : 36 ∷ xs ≡ delimiter tag_of ++ drop (dollar_opener xs) xs
-  opener_split = cons_same refl (sym (take-append-drop (dollar_opener xs) xs)) ∙ ap (λ d. d ++ drop (dollar_opener xs) xs) delimiter_is
+  opener_split =
+      cons_same refl (sym (take-append-drop (dollar_opener xs) xs))
+      ∙ ap (λ d. d ++ drop (dollar_opener xs) xs) delimiter_is
 
   pub opener_length : length (delimiter tag_of) ≡ 1 + dollar_opener xs
   opener_length =
@@ -109,5 +117,6 @@ tag_stands (x ∷ xs) h =
           subst (λ n. Tag (take n (x ∷ xs))) (sym none) tt
       | inr tag ↦
           let n = run tag_cont (x ∷ xs) in
-          tag_led n x xs (and_parts (ident_start x) (eqb (peek n (x ∷ xs)) 36) tag).0 (tag_rest n (x ∷ xs) (omega arith))
+          let lead = (and_parts (ident_start x) (eqb (peek n (x ∷ xs)) 36) tag).0 in
+          tag_led n x xs lead (tag_rest n (x ∷ xs) (omega arith))
     ]

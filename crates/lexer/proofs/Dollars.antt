@@ -1,13 +1,18 @@
 -- Lists that begin with another, one turn of the search for a delimiter, and how far dollar-quoted strings reach.
-use Rattle.std.proofs.Common.{◌≡◌, ℕ, suc, ◌+◌, ◌<◌, ◌≤◌, true, false, cond, ◌&&◌, eqb, List, [], ◌∷◌, length, get_or, take, drop, sym, refl, ap, ◌∙◌, inl, inr, arith, eqb-true}
+use Rattle.std.proofs.Common.{◌≡◌, ℕ, zero, suc, ◌+◌, ◌<◌, ◌≤◌, Bool, true, false, cond, ◌&&◌, eqb, List, [], ◌∷◌, length, get_or, take, drop, sym, refl, ap, ◌∙◌, inl, inr, arith, eqb-true}
 use Rattle.lexer.proofs.Moves.{moved_by, moved_rest, moved_trans, next_one}
 use Rattle.lexer.proofs.Rest.{within}
 use Rattle.lexer.proofs.Runs.{identifier_within, run_within, then_within}
 use Rattle.lexer.specs.Class.{decimal, ident_start, tag_cont}
 use Rattle.lexer.specs.Cursor.{Moved, Spot, identifier, next_len, peek, rest, run}
-use Rattle.lexer.specs.Dollar.{begins, delimited, delimited_closed, dollar_delimiter, dollar_len, dollar_opener, opens_dollar, parameter}
-use Rattle.std.proofs.lemmas.List.{drop_all, drop_more, get_or-drop, get_or-take, length-drop, length-take-le}
-use Rattle.std.proofs.lemmas.Bool.{and_parts, and_right, cases_Bool, or_cases}
+use Rattle.lexer.specs.Extent.{Extent, further}
+use Rattle.lexer.specs.Dollar.{begins, delimited, delimited_extent, dollar_delimiter, dollar_len, dollar_opener, opens_dollar, parameter}
+use Rattle.std.proofs.lemmas.List.{drop_all, drop_more, get_or-drop, length-drop}
+use Rattle.std.proofs.lemmas.Option.{slice_get-get_or}
+use Rattle.std.specs.List.{list_all, range_with_len, slice_get, zip}
+use Rattle.std.specs.Option.{option_eq}
+use Rattle.std.specs.Prelude.{nat_eq}
+use Rattle.std.proofs.lemmas.Bool.{and_parts, and_right, cases_Bool, cond_both, or_cases}
 use borrow.Author.Tests.{clash}
 
 pub begins_fits : (ds xs : List ℕ) → begins ds xs ≡ true → length ds ≤ length xs
@@ -22,29 +27,34 @@ begins_short [] xs h = absurd (omega arith)
 begins_short (d ∷ ds) [] h = refl
 begins_short (d ∷ ds) (x ∷ xs) h = and_right (eqb d x) (begins ds xs) (begins_short ds xs (omega arith))
 
-module _ (ds xs : List ℕ) (i : ℕ) where
-  pub begins_more : i < length ds → i < length xs → begins (drop i ds) (drop i xs) ≡ (eqb (get_or ds i 0) (get_or xs i 0) && begins (drop (i + 1) ds) (drop (i + 1) xs))
+module _ (ds xs : List ℕ) where
+  begins_more : (i j : ℕ) → i < length ds → j < length xs → begins (drop i ds) (drop j xs) ≡ (eqb (get_or ds i 0) (get_or xs j 0) && begins (drop (i + 1) ds) (drop (j + 1) xs))
   unfolding begins
-  begins_more p q = ap (λ l. begins l (drop i xs)) (drop_more ds i 0 p) ∙ ap (begins (get_or ds i 0 ∷ drop (i + 1) ds)) (drop_more xs i 0 q)
+  begins_more i j p q = ap (λ l. begins l (drop j xs)) (drop_more ds i 0 p) ∙ ap (begins (get_or ds i 0 ∷ drop (i + 1) ds)) (drop_more xs j 0 q)
 
-  pub begins_all : length ds ≤ i → begins (drop i ds) (drop i xs) ≡ true
+  begins_all : (i j : ℕ) → length ds ≤ i → begins (drop i ds) (drop j xs) ≡ true
   unfolding begins
-  begins_all p = ap (λ l. begins l (drop i xs)) (drop_all i ds p)
+  begins_all i j p = ap (λ l. begins l (drop j xs)) (drop_all i ds p)
 
--- the range of a length at a place
-module _ (xs : List ℕ) (from len : ℕ) where
-  pub range_length : from + len ≤ length xs → length (take len (drop from xs)) ≡ len
-  range_length h = length-take-le len (drop from xs) (simp length-drop (omega arith))
+  -- whether a byte of the first list is that of the second at another place
+  abbrev pub same_at : ℕ × ℕ → Bool
+  same_at p = option_eq nat_eq (slice_get ds p.0) (slice_get xs p.1)
 
-  pub range_byte : (i : ℕ) → i < len → get_or (take len (drop from xs)) i 0 ≡ get_or xs (from + i) 0
-  range_byte i h = get_or-take len (drop from xs) i 0 h ∙ get_or-drop from xs i 0
+  pub begins_from : (n m i j : ℕ) → i + n ≡ length ds → j + m ≡ length xs → n ≤ m → list_all same_at (zip (range_with_len i n) (range_with_len j m)) ≡ begins (drop i ds) (drop j xs)
+  begins_from zero m i j p q h = sym (begins_all i j (omega arith))
+  begins_from (suc n) zero i j p q h = absurd (omega arith)
+  begins_from (suc n) (suc m) i j p q h =
+      let here : same_at (i, j) ≡ eqb (get_or ds i 0) (get_or xs j 0) = simp (slice_get-get_or ds i 0 (omega arith), slice_get-get_or xs j 0 (omega arith)) in
+      ap (λ b. same_at (i, j) && b) (begins_from n m (i + 1) (j + 1) (omega arith) (omega arith) (omega arith))
+      ∙ ap (λ b. b && begins (drop (i + 1) ds) (drop (j + 1) xs)) here
+      ∙ sym (begins_more i j (omega arith) (omega arith))
 
-  -- the bytes from a `$` on
-  pub opener_bytes : get_or xs from 0 ≡ 36 → take (len + 1) (drop from xs) ≡ 36 ∷ take len (drop (from + 1) xs)
-  opener_bytes sign =
-      let more : len + 1 ≡ suc len = omega arith in
-      let front : drop from xs ≡ 36 ∷ drop (from + 1) xs = drop_more xs from 0 (within xs from 35 sign) ∙ ap (λ x. x ∷ drop (from + 1) xs) sign in
-      ap (take (len + 1)) front ∙ ap (λ k. take k (36 ∷ drop (from + 1) xs)) more
+-- the bytes from a `$` on
+pub opener_bytes : (xs : List ℕ) (from len : ℕ) → get_or xs from 0 ≡ 36 → take (len + 1) (drop from xs) ≡ 36 ∷ take len (drop (from + 1) xs)
+opener_bytes xs from len sign =
+    let more : len + 1 ≡ suc len = omega arith in
+    let front : drop from xs ≡ 36 ∷ drop (from + 1) xs = drop_more xs from 0 (within xs from 35 sign) ∙ ap (λ x. x ∷ drop (from + 1) xs) sign in
+    ap (take (len + 1)) front ∙ ap (λ k. take k (36 ∷ drop (from + 1) xs)) more
 
 -- where a dollar quote opens, a `$` stands after the tag
 pub opens_sign : (xs : List ℕ) → opens_dollar xs ≡ true → peek (run tag_cont xs) xs ≡ 36
@@ -73,32 +83,27 @@ opener_moved {c = c} {d = d} opens tag sign =
 
 module _ (delimiter : List ℕ) where
   pub delimited_within : (xs : List ℕ) → delimited delimiter xs ≤ length xs
-  unfolding delimited
+  unfolding delimited_extent
   delimited_within [] = omega arith
   delimited_within (x ∷ xs) =
       let more = delimited_within xs in
-      let whole = begins_fits delimiter (x ∷ xs) in
-      elim (begins delimiter (x ∷ xs)) as (λ b. (b ≡ true → length delimiter ≤ suc (length xs)) → cond b (length delimiter) (1 + delimited delimiter xs) ≤ suc (length xs)) [
-        | true ↦ λ h. h refl
-        | false ↦ λ h. omega arith
-      ] whole
+      cond_both {A = Extent} (begins delimiter (x ∷ xs)) _ _ (λ e. e.len ≤ length (x ∷ xs)) (λ whole. begins_fits delimiter (x ∷ xs) whole) (λ _. omega arith)
 
   module _ (xs : List ℕ) (i : ℕ) where
-    pub delimited_more : i < length xs → delimited delimiter (drop i xs) ≡ cond (begins delimiter (drop i xs)) (length delimiter) (1 + delimited delimiter (drop (i + 1) xs))
-    unfolding delimited
-    delimited_more h = ap (delimited delimiter) (drop_more xs i 0 h) ∙ ap (λ l. cond (begins delimiter l) (length delimiter) (1 + delimited delimiter (drop (i + 1) xs))) (sym (drop_more xs i 0 h))
+    extent_here : i < length xs → delimited_extent delimiter (drop i xs) ≡ cond (begins delimiter (drop i xs)) (record { len = length delimiter; closed = true }) (further 1 (delimited_extent delimiter (drop (i + 1) xs)))
+    unfolding delimited_extent
+    extent_here h = ap (delimited_extent delimiter) (drop_more xs i 0 h) ∙ ap (λ l. cond (begins delimiter l) (record { len = length delimiter; closed = true }) (further 1 (delimited_extent delimiter (drop (i + 1) xs)))) (sym (drop_more xs i 0 h))
 
-    pub closed_more : i < length xs → delimited_closed delimiter (drop i xs) ≡ cond (begins delimiter (drop i xs)) true (delimited_closed delimiter (drop (i + 1) xs))
-    unfolding delimited_closed
-    closed_more h = ap (delimited_closed delimiter) (drop_more xs i 0 h) ∙ ap (λ l. cond (begins delimiter l) true (delimited_closed delimiter (drop (i + 1) xs))) (sym (drop_more xs i 0 h))
+    -- where a delimiter stands, where another byte does, and past the end
+    pub extent_found : i < length xs → begins delimiter (drop i xs) ≡ true → delimited_extent delimiter (drop i xs) ≡ record { len = length delimiter; closed = true }
+    extent_found h e = extent_here h ∙ simp e
 
-    pub delimited_end : length xs ≤ i → delimited delimiter (drop i xs) ≡ 0
-    unfolding delimited
-    delimited_end h = ap (delimited delimiter) (drop_all i xs h)
+    pub extent_more : i < length xs → begins delimiter (drop i xs) ≡ false → delimited_extent delimiter (drop i xs) ≡ further 1 (delimited_extent delimiter (drop (i + 1) xs))
+    extent_more h e = extent_here h ∙ simp e
 
-    pub closed_end : length xs ≤ i → delimited_closed delimiter (drop i xs) ≡ false
-    unfolding delimited_closed
-    closed_end h = ap (delimited_closed delimiter) (drop_all i xs h)
+    pub extent_end : length xs ≤ i → delimited_extent delimiter (drop i xs) ≡ record { len = 0; closed = false }
+    unfolding delimited_extent
+    extent_end h = ap (delimited_extent delimiter) (drop_all i xs h)
 
 pub parameter_within : (xs : List ℕ) → parameter xs ≤ length xs
 parameter_within xs = then_within identifier identifier_within (run decimal xs) xs (run_within decimal xs)

@@ -1,5 +1,4 @@
 mod AllLaws
-mod Begins
 mod Beside
 mod Between
 mod Bodies
@@ -12,9 +11,11 @@ mod DecidedNumbers
 mod DecidedParts
 mod Delimiters
 mod Dollars
+mod Extents
 mod Forms
 mod Found
 mod Local
+pub mod LoneSemicolon
 mod Marks
 mod Moves
 mod NumberBytes
@@ -36,6 +37,7 @@ mod Spans
 mod Starts
 mod Stopped
 mod Table
+mod TokenAt
 mod TokenLaws
 pub mod Turns
 mod Within

@@ -1,6 +1,7 @@
 -- The marks of a block comment, counted, tell how many comments are open.
 use Rattle.std.proofs.Common.{◌≡◌, ℕ, zero, suc, ◌+◌, ◌<◌, true, false, List, [], ◌∷◌, length, take, sym, refl, ap, ◌∙◌, inl, inr, arith}
-use Rattle.lexer.specs.Comment.{closes, comment, comment_closed, commented, opens}
+use Rattle.lexer.proofs.Extents.{shut}
+use Rattle.lexer.specs.Comment.{closes, comment, comment_closed, comment_extent, opens}
 use Rattle.lexer.specs.Extent.{Extent, further}
 use Rattle.lexer.specs.TokenLaws.{closers, openers}
 use Rattle.std.proofs.lemmas.Bool.{cases_Bool}
@@ -22,27 +23,24 @@ module _ (a b : ℕ) (xs : List ℕ) where
 
   -- and what they make of the comments that are open
   module _ (d : ℕ) where
-    opener_deepens : opens a b ≡ true → commented (suc d) (a ∷ b ∷ xs) ≡ further 2 (commented (suc (suc d)) xs)
-    unfolding commented
+    opener_deepens : opens a b ≡ true → comment_extent (suc d) (a ∷ b ∷ xs) ≡ further 2 (comment_extent (suc (suc d)) xs)
+    unfolding comment_extent
     opener_deepens o = simp o
 
-    closer_shuts : opens a b ≡ false → closes a b ≡ true → commented (suc d) (a ∷ b ∷ xs) ≡ further 2 (commented d xs)
-    unfolding commented
+    closer_shuts : opens a b ≡ false → closes a b ≡ true → comment_extent (suc d) (a ∷ b ∷ xs) ≡ further 2 (comment_extent d xs)
+    unfolding comment_extent
     closer_shuts o c = simp (o, c)
 
-    neither_moves : opens a b ≡ false → closes a b ≡ false → commented (suc d) (a ∷ b ∷ xs) ≡ further 1 (commented (suc d) (b ∷ xs))
-    unfolding commented
+    neither_moves : opens a b ≡ false → closes a b ≡ false → comment_extent (suc d) (a ∷ b ∷ xs) ≡ further 1 (comment_extent (suc d) (b ∷ xs))
+    unfolding comment_extent
     neither_moves o c = simp (o, c)
 
--- what an equation of extents says of both parts
+-- what an equation of extents says of their lengths
 long : {d : Extent} (e : Extent) → d ≡ further 2 e → d.len ≡ suc (suc e.len)
 long e s = ap (λ (x : Extent). x.len) s ∙ omega arith
 
 longer : {d : Extent} (e : Extent) → d ≡ further 1 e → d.len ≡ suc e.len
 longer e s = ap (λ (x : Extent). x.len) s ∙ omega arith
-
-shut : {d e : Extent} → d ≡ e → d.closed ≡ e.closed
-shut s = ap (λ (x : Extent). x.closed) s
 
 -- of less than two bytes, no mark
 few_marks : (n d : ℕ) (xs : List ℕ) → length (take n xs) < 2 → closers (take n xs) < suc d + openers (take n xs)
@@ -54,7 +52,7 @@ few_marks (suc (suc n)) d (a ∷ []) h = omega arith
 few_marks (suc (suc n)) d (a ∷ b ∷ xs) h = absurd (omega arith)
 
 none_open : (xs : List ℕ) (n : ℕ) → (comment_closed 0 xs ≡ true → n < comment 0 xs) → ⊥
-unfolding commented
+unfolding comment_extent
 none_open xs n h = let z = h refl in omega arith
 
 -- before the outermost of so many open comments is closed, each front closes fewer than were open and it opens
@@ -90,20 +88,20 @@ fewer_closers (suc d) (a ∷ b ∷ xs) (suc (suc n)) h =
 
 -- an open comment that is closed has a byte or more
 some_left : (d b : ℕ) (xs : List ℕ) → 0 < comment (suc d) (b ∷ xs)
-unfolding commented
+unfolding comment_extent
 some_left d b [] = omega arith
 some_left d b (c ∷ xs) = grind arith
 
 nothing : (xs : List ℕ) → closers (take (comment 0 xs) xs) ≡ 0 + openers (take (comment 0 xs) xs)
-unfolding commented openers closers
+unfolding comment_extent openers closers
 nothing xs = refl
 
 short_open : (d : ℕ) → comment_closed (suc d) [] ≡ false
-unfolding commented
+unfolding comment_extent
 short_open d = refl
 
 byte_open : (d a : ℕ) → comment_closed (suc d) (a ∷ []) ≡ false
-unfolding commented
+unfolding comment_extent
 byte_open d a = refl
 
 -- a byte that begins no mark counts for nothing
@@ -149,12 +147,12 @@ all_closed (suc d) (a ∷ b ∷ xs) k =
     ]
 
 none_unclosed : (xs : List ℕ) → comment_closed 0 xs ≡ true
-unfolding commented
+unfolding comment_extent
 none_unclosed xs = refl
 
 -- where it is not closed, it is all there is
 pub unclosed_whole : (d : ℕ) (xs : List ℕ) → comment_closed d xs ≡ false → comment d xs ≡ length xs
-unfolding commented
+unfolding comment_extent
 unclosed_whole zero xs k = absurd (clash (sym k ∙ none_unclosed xs))
 unclosed_whole (suc d) [] k = refl
 unclosed_whole (suc d) (a ∷ []) k = refl

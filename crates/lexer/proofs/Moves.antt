@@ -1,5 +1,5 @@
 -- How moves of the cursor join.
-use Rattle.std.proofs.Common.{◌≡◌, ℕ, zero, suc, ◌+◌, Bool, true, false, eqb, List, [], ◌∷◌, drop, sym, refl, ap, ◌∙◌, subst, arith, eq-eqb, ne_eqb}
+use Rattle.std.proofs.Common.{◌≡◌, ℕ, suc, ◌+◌, Bool, true, false, List, [], ◌∷◌, drop, sym, refl, ap, ◌∙◌, subst, arith}
 use Rattle.lexer.specs.Cursor.{Moved, Spot, next_len, peek, rest}
 use Rattle.std.proofs.lemmas.List.{drop-drop}
 
@@ -15,11 +15,6 @@ next_one (x ∷ xs) b e = refl
 pub next_in_lem : (class : ℕ → Bool) (xs : List ℕ) → class 0 ≡ false → class (peek 0 xs) ≡ true → next_len xs ≡ 1
 next_in_lem class [] lacks e = let z : true ≡ false = sym e ∙ lacks in absurd (true_not_false z)
 next_in_lem class (x ∷ xs) lacks e = refl
-
--- whether a place moved, by how far
-pub unmoved : (p q n : ℕ) → q ≡ p + n → eqb q p ≡ eqb n 0
-unmoved p q zero e = eq-eqb q p (omega arith) ∙ sym (eq-eqb 0 0 refl)
-unmoved p q (suc n) e = ne_eqb q p (λ h. omega arith) ∙ sym (ne_eqb (suc n) 0 (λ h. omega arith))
 
 -- a cursor that stays
 pub stayed : (c : Spot) → Moved c c 0
@@ -44,10 +39,6 @@ moved_trans p q =
 -- what follows after a move
 pub moved_rest : {c d : Spot} {n : ℕ} → Moved c d n → rest d ≡ drop n (rest c)
 moved_rest {c = c} {d = d} {n = n} p = ap (drop d.place) p.text ∙ ap (λ k. drop k c.text) p.place ∙ sym (drop-drop n c.place c.text)
-
--- the same move, its beginning said otherwise
-pub moved_from : {c d e : Spot} → d ≡ c → (f : List ℕ → ℕ) → Moved d e (f (rest d)) → Moved c e (f (rest c))
-moved_from {e = e} q f p = subst (λ (x : Spot). Moved x e (f (rest x))) q p
 
 -- a move by what follows after another
 pub moved_then : (f : List ℕ → ℕ) {c d e : Spot} {n : ℕ} → Moved c d n → Moved d e (f (rest d)) → Moved c e (n + f (drop n (rest c)))

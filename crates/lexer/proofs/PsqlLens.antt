@@ -33,7 +33,8 @@ options_within state last (x ∷ xs) =
     let next = options_within Outside None xs in
     let blanks = run_within line_blank (x ∷ xs) in
     cond_both (stops state x) 0 _ (λ n. n ≤ length (x ∷ xs)) (λ _. omega arith)
-    (λ _. cond_both (separates state x) _ _ (λ n. n ≤ length (x ∷ xs)) (λ _. cond_both (is_parenthesis last) _ _ (λ n. n ≤ length (x ∷ xs)) (λ _. blanks) (λ _. omega arith)) (λ _. omega arith))
+    (λ _. cond_both (separates state x && is_parenthesis last) _ _ (λ n. n ≤ length (x ∷ xs)) (λ _. blanks)
+    (λ _. cond_both (separates state x) _ _ (λ n. n ≤ length (x ∷ xs)) (λ _. omega arith) (λ _. omega arith)))
 
 -- two things that each end within what they are given
 pub followed_within : (f g : List ℕ → ℕ) → ((xs : List ℕ) → f xs ≤ length xs) → ((xs : List ℕ) → g xs ≤ length xs) → (xs : List ℕ) → followed f g xs ≤ length xs

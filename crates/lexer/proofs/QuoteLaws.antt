@@ -3,10 +3,10 @@ use Rattle.std.proofs.Common.{◌≡◌, ℕ, ◌+◌, ◌≤◌, Bool, true, fa
 use Rattle.lexer.proofs.Bodies.{closed_splits, closes_closed, closes_once, open_runs}
 use Rattle.lexer.proofs.Delimiters.{delimited_runs, delimited_splits, delimiter_is, opener_length, opener_split, tag_of, tag_stands}
 use Rattle.lexer.proofs.Found.{dollar_found, quoted_found}
-use Rattle.lexer.proofs.Openers.{DollarFront, Front, QuotedFront, manner, quoting_manner, token_front}
+use Rattle.lexer.proofs.Openers.{DollarFront, Front, QuotedFront, quoting_front, token_front}
 use Rattle.lexer.specs.Dollar.{delimited, delimited_closed, dollar_opener}
 use Rattle.lexer.specs.Lex.{token_at}
-use Rattle.lexer.specs.QuoteLaws.{DollarCloses, DollarRuns, QuoteLaws, QuotedCloses, QuotedOpens, QuotedRuns, Quoting, Tag, delimiter}
+use Rattle.lexer.specs.QuoteLaws.{Closes, DollarCloses, DollarRuns, QuoteLaws, QuotedCloses, QuotedOpens, QuotedRuns, Quoting, Tag, delimiter}
 use Rattle.lexer.specs.Quoted.{quoted, quoted_closed}
 use Rattle.lexer.specs.declared.token.LiteralKind.TheVariants.{DollarQuotedString}
 use Rattle.lexer.specs.declared.token.Token.{Token}
@@ -14,9 +14,10 @@ use Rattle.lexer.specs.declared.token.TokenKind.TheVariants.{Literal}
 use Rattle.std.proofs.lemmas.List.{drop-drop, length-append, length-drop, length-map, length-take}
 use borrow.Author.Tests.{clash}
 
-module _ (bs : List ℕ) (place : ℕ) (t : Token) (opener : List ℕ) (q : ℕ) (e c : Bool) (at : token_at bs place ≡ Some t) (kind : Quoting t.kind opener q e c) where
+module _ (bs : List ℕ) (place : ℕ) (t : Token) (opener : List ℕ) (q : ℕ) (e c : Bool) (at : token_at bs place ≡ Some t)
+    (kind : Quoting t.kind opener q e c) where
   quoted_front : QuotedFront opener q e c (drop place bs) t.len
-  quoted_front = subst (λ m. Front m (drop place bs) t.len) (quoting_manner kind) (token_front bs place t at)
+  quoted_front = quoting_front kind (drop place bs) t.len (token_front bs place t at)
 
   -- what follows the opener
   past_opener : drop (length opener) (drop place bs) ≡ drop (place + length opener) bs
@@ -35,7 +36,8 @@ module _ (bs : List ℕ) (place : ℕ) (t : Token) (opener : List ℕ) (q : ℕ)
       omega arith
 
 pub quoted_opens : QuotedOpens
-quoted_opens bs place t opener quote escapes terminated at kind = (quoted_front bs place t opener quote escapes terminated at kind).opens
+quoted_opens bs place t opener quote escapes terminated at kind =
+    (quoted_front bs place t opener quote escapes terminated at kind).opens
 
 pub quoted_closes : QuotedCloses
 quoted_closes bs place t opener quote escapes at kind =
@@ -44,7 +46,9 @@ quoted_closes bs place t opener quote escapes at kind =
     let apart = (quoted_front bs place t opener quote escapes true at kind).apart in
     let reach = opener_reach bs place t opener quote escapes true at kind in
     let body = split.3 in
-    (split.0, split.1, split.2, omega arith, λ b r other. closes_once quote escapes apart xs b r split.0 split.1 other split.2)
+    let once = λ (b r : List ℕ) (other : Closes quote escapes xs b r).
+    closes_once quote escapes apart xs b r split.0 split.1 other split.2 in
+    (split.0, split.1, split.2, omega arith, once)
 
 pub quoted_runs : QuotedRuns
 quoted_runs bs place t opener quote escapes at kind =
@@ -57,9 +61,10 @@ quoted_runs bs place t opener quote escapes at kind =
     let left = length-drop (place + length opener) bs in
     (λ b r c. clash (sym unclosed ∙ closes_closed quote escapes apart xs b r c), omega arith)
 
-module _ (bs : List ℕ) (place : ℕ) (t : Token) (c : Bool) (at : token_at bs place ≡ Some t) (kind : t.kind ≡ Literal (DollarQuotedString c)) where
+module _ (bs : List ℕ) (place : ℕ) (t : Token) (c : Bool) (at : token_at bs place ≡ Some t)
+    (kind : t.kind ≡ Literal (DollarQuotedString c)) where
   dollar_front : DollarFront c (drop place bs) t.len
-  dollar_front = subst (λ k. Front (manner k) (drop place bs) t.len) kind (token_front bs place t at)
+  dollar_front = subst (λ k. Front k (drop place bs) t.len) kind (token_front bs place t at)
 
   -- what follows the first `$`, the tag, and what follows the opening delimiter
   abbrev sign_on : List ℕ
@@ -78,11 +83,14 @@ module _ (bs : List ℕ) (place : ℕ) (t : Token) (c : Bool) (at : token_at bs 
   dollar_tag = tag_stands sign_on dollar_front.opens
 
   dollar_closed_so : delimited_closed (delimiter front_tag) opened ≡ c
-  dollar_closed_so = ap (λ d. delimited_closed d opened) (sym (delimiter_is sign_on dollar_front.opens)) ∙ sym dollar_front.closed
+  dollar_closed_so =
+      ap (λ d. delimited_closed d opened) (sym (delimiter_is sign_on dollar_front.opens)) ∙ sym dollar_front.closed
 
   dollar_reach : t.len ≡ length (delimiter front_tag) + delimited (delimiter front_tag) opened
   dollar_reach =
-      let reach = dollar_front.reach ∙ ap (λ d. 1 + (dollar_opener sign_on + delimited d opened)) (delimiter_is sign_on dollar_front.opens) in
+      let reach =
+      dollar_front.reach
+      ∙ ap (λ d. 1 + (dollar_opener sign_on + delimited d opened)) (delimiter_is sign_on dollar_front.opens) in
       let long = opener_length sign_on dollar_front.opens in
       omega arith
 
@@ -115,12 +123,4 @@ dollar_runs bs place t at kind =
 
 pub quote_laws : QuoteLaws
 quote_laws =
-    record {
-      quoted_opens = quoted_opens;
-      quoted_found = quoted_found;
-      quoted_closes = quoted_closes;
-      quoted_runs = quoted_runs;
-      dollar_found = dollar_found;
-      dollar_closes = dollar_closes;
-      dollar_runs = dollar_runs;
-    }
+    assumption (quoted_opens, quoted_found, quoted_closes, quoted_runs, dollar_found, dollar_closes, dollar_runs)

@@ -5,6 +5,8 @@ use Rattle.lexer.specs.Cut.{cut, lengths}
 use Rattle.lexer.specs.Laws.{NoneEmpty, border}
 use Rattle.lexer.specs.Lex.{token_at}
 use Rattle.lexer.specs.declared.token.Token.{Token}
+use Rattle.std.proofs.lemmas.Grind.{common_steps}
+use Rattle.std.proofs.lemmas.Option.{gets}
 use Rattle.std.specs.List.{slice_get}
 
 -- tokens read from a place on, each where the one before it ends
@@ -20,17 +22,24 @@ none_left (t ∷ ts) zero e h = let some = e.0 in absurd (omega arith)
 none_left (t ∷ ts) (suc k) e h = none_left ts k e.1 (omega arith)
 
 -- the token at an index, and those after it
-one_more : (ts : List Token) (k : ℕ) (t : Token) → slice_get ts k ≡ Some t → (drop k ts ≡ t ∷ drop (suc k) ts) × (lengths (take (suc k) ts) ≡ lengths (take k ts) + t.len)
-one_more [] k t e = let z : ◌≡◌ {A = ℕ} 0 1 = cc in absurd (omega arith)
-one_more (u ∷ ts) zero t e = let same : u ≡ t = cc in (ap (λ x. x ∷ ts) same, let len = ap (λ x. x.len) same in omega arith)
-one_more (u ∷ ts) (suc k) t e = let more = one_more ts k t e in (more.0, let len = more.1 in omega arith)
+token_next : (ts : List Token) (k : ℕ) (t : Token) → slice_get ts k ≡ Some t → drop k ts ≡ t ∷ drop (suc k) ts
+token_next ts k t e = grind (arith, common_steps, gets)
 
-from_border : (bs : List ℕ) (k : ℕ) (ts : List Token) → Reads bs (border bs k) ts → border bs k + lengths ts ≡ length bs → ts ≡ drop k (cut bs)
+-- a token ends its length after those before it
+pub token_end : (ts : List Token) (k : ℕ) (t : Token) → slice_get ts k ≡ Some t
+    → lengths (take (suc k) ts) ≡ lengths (take k ts) + t.len
+token_end [] k t e = cc
+token_end (u ∷ ts) zero t e = let same : u ≡ t = cc in omega (arith, ap (λ x. x.len) same)
+token_end (u ∷ ts) (suc k) t e = omega (arith, token_end ts k t e)
+
+from_border : (bs : List ℕ) (k : ℕ) (ts : List Token) → Reads bs (border bs k) ts → border bs k + lengths ts ≡ length bs
+    → ts ≡ drop k (cut bs)
 from_border bs k [] r h = let all = adds_up bs in none_left (cut bs) k all.1 (omega (arith, all.0))
 from_border bs k (t ∷ ts) r h =
-    let more = one_more (cut bs) k t (sym (reads_cut bs k) ∙ r.0) in
-    let next = subst (λ (p : ℕ). Reads bs p ts) (sym more.1) r.1 in
-    ap (λ l. t ∷ l) (from_border bs (suc k) ts next (omega (arith, more.1))) ∙ sym more.0
+    let at = sym (reads_cut bs k) ∙ r.0 in
+    let end = token_end (cut bs) k t at in
+    let next = subst (λ (p : ℕ). Reads bs p ts) (sym end) r.1 in
+    ap (λ l. t ∷ l) (from_border bs (suc k) ts next (omega arith)) ∙ sym (token_next (cut bs) k t at)
 
 pub reads_all : (bs : List ℕ) (ts : List Token) → Reads bs 0 ts → lengths ts ≡ length bs → ts ≡ cut bs
 reads_all bs ts r h = from_border bs 0 ts r (omega arith)

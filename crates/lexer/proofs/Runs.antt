@@ -18,7 +18,8 @@ digits_within digit [] = omega arith
 digits_within digit (x ∷ xs) = let more = digits_within digit xs in grind arith
 
 -- one thing, and another that follows it
-pub then_within : (g : List ℕ → ℕ) → ((xs : List ℕ) → g xs ≤ length xs) → (n : ℕ) (xs : List ℕ) → n ≤ length xs → n + g (drop n xs) ≤ length xs
+pub then_within : (g : List ℕ → ℕ) → ((xs : List ℕ) → g xs ≤ length xs) → (n : ℕ) (xs : List ℕ) → n ≤ length xs
+    → n + g (drop n xs) ≤ length xs
 then_within g q n xs h =
     let second = q (drop n xs) in
     let left = length-drop n xs in

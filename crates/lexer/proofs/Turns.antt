@@ -3,9 +3,11 @@ use Rattle.std.proofs.Common.{◌≡◌, ℕ, zero, suc, ◌+◌, Bool, true, fa
 use Rattle.std.specs.Prelude.{if◌then◌else◌}
 use Rattle.std.specs.List.{slice_get}
 use Rattle.std.proofs.lemmas.Option.{gets, slice_get_within}
-use Rattle.lexer.specs.Cursor.{digit_met, digits, leads, run}
-use Rattle.lexer.specs.PsqlArg.{after, arguments, stops}
+use Rattle.lexer.specs.Class.{line_blank}
+use Rattle.lexer.specs.Cursor.{digit_met, digits, leads, peek, run}
+use Rattle.lexer.specs.PsqlArg.{after, arguments, is_parenthesis, last_after, options, separates, stops}
 use Rattle.lexer.specs.declared.psql_arg.ArgState.{ArgState}
+use Rattle.lexer.specs.declared.psql_arg.ArgState.TheVariants.{Outside}
 
 -- one value past the end, and else a value by the byte
 abbrev pub by_byte : {K : Type 0} → Option ℕ → K → (ℕ → K) → K
@@ -21,6 +23,27 @@ turn f past at e h (x ∷ xs) zero = h x xs
 turn f past at e h (x ∷ xs) (suc i) =
     let next : suc (i + 1) ≡ suc i + 1 = omega arith in
     turn f past at e h xs i ∙ ap (λ k. by_byte (slice_get xs i) past (λ b. at b (drop k (x ∷ xs)))) next
+
+slice_get-drop : (xs : List ℕ) (i : ℕ) → slice_get (drop i xs) 0 ≡ slice_get xs i
+slice_get-drop [] zero = refl
+slice_get-drop [] (suc i) = refl
+slice_get-drop (x ∷ xs) zero = refl
+slice_get-drop (x ∷ xs) (suc i) = slice_get-drop xs i
+
+-- what is so by the first byte and the one after it is so by those at a place
+pub turn_two : {K : Type 0} (f : List ℕ → K) (past : K) (at : ℕ → Option ℕ → List ℕ → K) → f [] ≡ past → ((b : ℕ) (xs : List ℕ) → f (b ∷ xs) ≡ at b (slice_get xs 0) xs)
+    → (xs : List ℕ) (i : ℕ) → f (drop i xs) ≡ by_byte (slice_get xs i) past (λ b. at b (slice_get xs (i + 1)) (drop (i + 1) xs))
+turn_two f past at e h xs i =
+    turn f past (λ b ys. at b (slice_get ys 0) ys) e h xs i ∙ ap (λ o. by_byte (slice_get xs i) past (λ b. at b o (drop (i + 1) xs))) (slice_get-drop xs (i + 1))
+
+-- what is asked of one byte, or of none past the end
+pub peek_at : (xs : List ℕ) (i : ℕ) → peek i xs ≡ by_byte (slice_get xs i) 0 (λ b. b)
+peek_at [] i = refl
+peek_at (x ∷ xs) zero = refl
+peek_at (x ∷ xs) (suc i) = peek_at xs i
+
+pub leads_at : (class : ℕ → Bool) (xs : List ℕ) (i : ℕ) → leads class (drop i xs) ≡ by_byte (slice_get xs i) false class
+leads_at class xs i = turn (leads class) false (λ b ys. class b) refl (λ b ys. refl) xs i
 
 pub run_turn : (class : ℕ → Bool) (xs : List ℕ) (i : ℕ)
     → run class (drop i xs) ≡ by_byte (slice_get xs i) 0 (λ b. if class b then 1 + run class (drop (i + 1) xs) else 0)
@@ -42,6 +65,16 @@ pub arguments_turn : (state : ArgState) (xs : List ℕ) (i : ℕ)
 unfolding arguments
 arguments_turn state xs i = turn (arguments state) 0 (λ b ys. if stops state b then 0 else 1 + arguments (after state b) ys) refl (λ b ys. refl) xs i
 
+pub options_turn : (state : ArgState) (last : Option ℕ) (xs : List ℕ) (i : ℕ)
+    → options state last (drop i xs) ≡ by_byte (slice_get xs i) 0 (λ b. if stops state b then 0 else if separates state b && is_parenthesis last then run line_blank (drop i xs) else if separates state b then 1 + options Outside None (drop (i + 1) xs) else 1 + options (after state b) (last_after state last b) (drop (i + 1) xs))
+unfolding options
+options_turn state last [] zero = refl
+options_turn state last [] (suc i) = refl
+options_turn state last (x ∷ xs) zero = refl
+options_turn state last (x ∷ xs) (suc i) =
+    let next : suc (i + 1) ≡ suc i + 1 = omega arith in
+    options_turn state last xs i ∙ ap (λ k. by_byte (slice_get xs i) 0 (λ b. if stops state b then 0 else if separates state b && is_parenthesis last then run line_blank (drop i xs) else if separates state b then 1 + options Outside None (drop k (x ∷ xs)) else 1 + options (after state b) (last_after state last b) (drop k (x ∷ xs)))) next
+
 pub or_true : (a : Bool) → (a || true) ≡ true
 or_true true = refl
 or_true false = refl
@@ -50,4 +83,4 @@ pub or_false : (a : Bool) → (a || false) ≡ a
 or_false true = refl
 or_false false = refl
 
-pub ruleset turns = (run_turn, digits_turn, met_turn, arguments_turn, or_true, or_false, gets)
+pub ruleset turns = (run_turn, digits_turn, met_turn, arguments_turn, options_turn, or_true, or_false, gets)

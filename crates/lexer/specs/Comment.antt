@@ -10,19 +10,19 @@ opens a b = a == byte "/" && b == byte "*"
 abbrev pub closes : ℕ → ℕ → Bool
 closes a b = a == byte "*" && b == byte "/"
 
--- up to and with the mark that closes the outermost of so many open comments; the marks are read from left to right, and
--- no two share a byte
-unfoldable pub commented : ℕ → List ℕ → Extent
-commented zero xs = record { len = 0; closed = true }
-commented (suc depth) [] = record { len = 0; closed = false }
-commented (suc depth) (a ∷ []) = record { len = 1; closed = false }
-commented (suc depth) (a ∷ b ∷ xs) =
-    if opens a b then further 2 (commented (suc (suc depth)) xs)
-    else if closes a b then further 2 (commented depth xs)
-    else further 1 (commented (suc depth) (b ∷ xs))
+-- up to and with the mark that closes the outermost of so many open comments; the marks are read
+-- from left to right, and no two share a byte
+unfoldable pub comment_extent : ℕ → List ℕ → Extent
+comment_extent zero xs = record { len = 0; closed = true }
+comment_extent (suc depth) [] = record { len = 0; closed = false }
+comment_extent (suc depth) (a ∷ []) = record { len = 1; closed = false }
+comment_extent (suc depth) (a ∷ b ∷ xs) =
+    if opens a b then further 2 (comment_extent (suc (suc depth)) xs)
+    else if closes a b then further 2 (comment_extent depth xs)
+    else further 1 (comment_extent (suc depth) (b ∷ xs))
 
 abbrev pub comment : ℕ → List ℕ → ℕ
-comment depth xs = (commented depth xs).len
+comment depth xs = (comment_extent depth xs).len
 
 abbrev pub comment_closed : ℕ → List ℕ → Bool
-comment_closed depth xs = (commented depth xs).closed
+comment_closed depth xs = (comment_extent depth xs).closed

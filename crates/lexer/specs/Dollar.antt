@@ -1,9 +1,11 @@
--- What starts with a dollar sign: dollar-quoted strings and parameters. From `opens_dollar` on, the bytes are those that
--- follow the first `$`.
-use Rattle.std.specs.Prelude.{ℕ, ◌+◌, Bool, true, false, if◌then◌else◌, ◌&&◌, ◌||◌, List, [], ◌∷◌, length, take, drop, ◌==◌}
+-- What starts with a dollar sign: dollar-quoted strings and parameters. From `opens_dollar` on, the
+-- bytes are those that follow the first `$`.
+use Rattle.std.specs.Prelude.{ℕ, ◌+◌, ◌==◌, Bool, true, false, if◌then◌else◌, ◌&&◌, ◌||◌}
+use Rattle.std.specs.Prelude.{List, [], ◌∷◌, length, take, drop}
 use Rattle.lexer.specs.Byte.{byte}
 use Rattle.lexer.specs.Class.{decimal, ident_start, tag_cont}
 use Rattle.lexer.specs.Cursor.{identifier, leads, peek, run}
+use Rattle.lexer.specs.Extent.{Extent, further}
 use Rattle.lexer.specs.declared.token.LiteralKind.TheVariants.{DollarQuotedString}
 use Rattle.lexer.specs.declared.token.TokenKind.TheVariants.{Literal, PositionalParam}
 use Rattle.lexer.specs.declared.token.TokenKind.{TokenKind}
@@ -14,23 +16,25 @@ begins [] xs = true
 begins (d ∷ ds) [] = false
 begins (d ∷ ds) (x ∷ xs) = d == x && begins ds xs
 
--- the bytes up to and with the first whole delimiter, or all there are
-unfoldable pub delimited : List ℕ → List ℕ → ℕ
-delimited delimiter [] = 0
-delimited delimiter (x ∷ xs) =
-    if begins delimiter (x ∷ xs) then length delimiter
-    else 1 + delimited delimiter xs
+-- up to and with the first whole delimiter, or all there is
+unfoldable pub delimited_extent : List ℕ → List ℕ → Extent
+delimited_extent delimiter [] = record { len = 0; closed = false }
+delimited_extent delimiter (x ∷ xs) =
+    if begins delimiter (x ∷ xs) then record { len = length delimiter; closed = true }
+    else further 1 (delimited_extent delimiter xs)
 
--- whether there is one
-unfoldable pub delimited_closed : List ℕ → List ℕ → Bool
-delimited_closed delimiter [] = false
-delimited_closed delimiter (x ∷ xs) =
-    if begins delimiter (x ∷ xs) then true
-    else delimited_closed delimiter xs
+-- how many bytes that is
+abbrev pub delimited : List ℕ → List ℕ → ℕ
+delimited delimiter xs = (delimited_extent delimiter xs).len
+
+-- whether there is a whole delimiter
+abbrev pub delimited_closed : List ℕ → List ℕ → Bool
+delimited_closed delimiter xs = (delimited_extent delimiter xs).closed
 
 -- whether a tag and a `$` follow: the tag is empty or an identifier without `$`
 abbrev pub opens_dollar : List ℕ → Bool
-opens_dollar xs = peek 0 xs == byte "$" || (leads ident_start xs && peek (run tag_cont xs) xs == byte "$")
+opens_dollar xs =
+    peek 0 xs == byte "$" || (leads ident_start xs && peek (run tag_cont xs) xs == byte "$")
 
 -- the bytes of the tag and of the `$` after it
 abbrev pub dollar_opener : List ℕ → ℕ
@@ -44,6 +48,7 @@ dollar_delimiter xs = byte "$" ∷ take (dollar_opener xs) xs
 abbrev pub dollar_quoted : List ℕ → ℕ
 dollar_quoted xs = dollar_opener xs + delimited (dollar_delimiter xs) (drop (dollar_opener xs) xs)
 
+-- whether it is closed
 abbrev pub dollar_closed : List ℕ → Bool
 dollar_closed xs = delimited_closed (dollar_delimiter xs) (drop (dollar_opener xs) xs)
 
@@ -51,9 +56,11 @@ dollar_closed xs = delimited_closed (dollar_delimiter xs) (drop (dollar_opener x
 abbrev pub parameter : List ℕ → ℕ
 parameter xs = run decimal xs + identifier (drop (run decimal xs) xs)
 
+-- the bytes after the `$` that belong to the token
 abbrev pub dollar_len : List ℕ → ℕ
 dollar_len xs = if opens_dollar xs then dollar_quoted xs else parameter xs
 
+-- the kind of the token
 abbrev pub dollar_kind : List ℕ → TokenKind
 dollar_kind xs =
     if opens_dollar xs then Literal (DollarQuotedString (dollar_closed xs))

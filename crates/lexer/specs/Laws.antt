@@ -22,7 +22,9 @@ ReadsCut = (xs : List ℕ) (count : ℕ) → token_at xs (border xs count) ≡ s
 abbrev pub AddsUp : Type 0
 AddsUp = (xs : List ℕ) → (lengths (cut xs) ≡ length xs) × NoneEmpty (cut xs)
 
--- two texts that end alike after a border of each, with at least one token before it, have equal tokens after it
+-- two texts that end alike after a border of each, with at least one token before it, have equal
+-- tokens after it
 abbrev pub SameTail : Type 0
 SameTail =
-    (xs ys : List ℕ) (m n : ℕ) → 0 < m → m ≤ length (cut xs) → 0 < n → n ≤ length (cut ys) → drop (border xs m) xs ≡ drop (border ys n) ys → drop m (cut xs) ≡ drop n (cut ys)
+    (xs ys : List ℕ) (m n : ℕ) → 0 < m → m ≤ length (cut xs) → 0 < n → n ≤ length (cut ys)
+    → drop (border xs m) xs ≡ drop (border ys n) ys → drop m (cut xs) ≡ drop n (cut ys)

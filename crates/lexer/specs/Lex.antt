@@ -22,8 +22,10 @@ abbrev pub kind_of : Start → ℕ → List ℕ → TokenKind
 kind_of Blanks first xs = Whitespace
 kind_of Line first xs = LineComment
 kind_of Block first xs = BlockComment (comment_closed 1 (drop 1 xs))
-kind_of (Prefixed prefix) first xs = Literal (prefix_literal prefix (quoted_closed (byte "'") (has_escapes prefix) (drop 1 xs)))
-kind_of UnicodeStr first xs = Literal (prefix_literal UnicodeEsc (quoted_closed (byte "'") false (drop 2 xs)))
+kind_of (Prefixed prefix) first xs =
+    Literal (prefix_literal prefix (quoted_closed (byte "'") (has_escapes prefix) (drop 1 xs)))
+kind_of UnicodeStr first xs =
+    Literal (prefix_literal UnicodeEsc (quoted_closed (byte "'") false (drop 2 xs)))
 kind_of UnicodeIdent first xs = QuotedIdent (quoted_closed (byte "\"") false (drop 2 xs)) true
 kind_of Word first xs = Ident
 kind_of Digit first xs = Literal (number first 1 xs)
@@ -59,7 +61,9 @@ start_with first xs = start_of first (peek 0 xs) (peek 1 xs)
 
 -- the token that begins with a byte, where `xs` follows it
 unfoldable pub lex : ℕ → List ℕ → Token
-lex first xs = record { kind = kind_of (start_with first xs) first xs; len = 1 + rest_len (start_with first xs) first xs }
+lex first xs =
+    let start = start_with first xs in
+    record { kind = kind_of start first xs; len = 1 + rest_len start first xs }
 
 -- the token at the front of a list; of none, the end
 abbrev pub token_from : List ℕ → Token

@@ -9,6 +9,7 @@ pub mod Extent
 pub mod Laws
 pub mod Lex
 pub mod Number
+pub mod Piece
 pub mod Psql
 pub mod PsqlArg
 pub mod QuoteLaws

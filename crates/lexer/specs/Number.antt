@@ -27,7 +27,8 @@ exponent_digits xs = if sign (peek 0 xs) then decimal (peek 1 xs) else decimal (
 -- after the mark: the sign and the digits; a sign is taken only before a digit
 abbrev pub exponent_tail : List ℕ → ℕ
 exponent_tail xs =
-    if exponent_digits xs then (if sign (peek 0 xs) then 1 + digits decimal (drop 1 xs) else digits decimal xs)
+    if exponent_digits xs
+    then (if sign (peek 0 xs) then 1 + digits decimal (drop 1 xs) else digits decimal xs)
     else 0
 
 -- the exponent, with its mark, if there is one
@@ -83,7 +84,9 @@ decimal_len xs = digits decimal xs + after_digits_len (drop (digits decimal xs) 
 
 -- after `0b`, `0o` or `0x`: a run of digits, then junk; it is empty if neither was read
 unfoldable pub based : Base → (ℕ → Bool) → ℕ → List ℕ → LiteralKind
-based base digit at xs = Int base (not (digit_met digit xs) && identifier (drop (digits digit xs) xs) == 0) (at + digits digit xs)
+based base digit at xs =
+    let len = digits digit xs in
+    Int base (not (digit_met digit xs) && identifier (drop len xs) == 0) (at + len)
 
 unfoldable pub based_len : (ℕ → Bool) → List ℕ → ℕ
 based_len digit xs = digits digit xs + identifier (drop (digits digit xs) xs)
@@ -91,7 +94,11 @@ based_len digit xs = digits digit xs + identifier (drop (digits digit xs) xs)
 -- the base that a prefix names: after a `0`, by the letter that follows
 abbrev pub base_of : ℕ → ℕ → Base
 base_of first next =
-    if first == byte "0" then (if either_case (byte "b") next then Binary else if either_case (byte "o") next then Octal else if either_case (byte "x") next then Hexadecimal else Decimal)
+    if first == byte "0"
+    then (if either_case (byte "b") next then Binary
+    else if either_case (byte "o") next then Octal
+    else if either_case (byte "x") next then Hexadecimal
+    else Decimal)
     else Decimal
 
 -- after the first digit of a number in a base; binary and octal numbers take decimal digits

@@ -1,5 +1,6 @@
 -- psql commands: the word after the backslash, what it does, and how far the command reaches.
-use Rattle.std.specs.Prelude.{None, ℕ, ◌+◌, Bool, true, false, if◌then◌else◌, ◌&&◌, ◌||◌, List, [], ◌∷◌, take, drop, codes, ◌==◌}
+use Rattle.std.specs.Prelude.{ℕ, ◌+◌, ◌==◌, Bool, true, false, if◌then◌else◌, ◌&&◌, ◌||◌}
+use Rattle.std.specs.Prelude.{List, [], ◌∷◌, take, drop, codes, None}
 use Rattle.lexer.specs.Byte.{byte}
 use Rattle.lexer.specs.Class.{all_but, command_letter, line_blank}
 use Rattle.lexer.specs.Cursor.{peek, run}
@@ -25,22 +26,30 @@ spelt f [] (y ∷ ys) = false
 spelt f (x ∷ xs) [] = false
 spelt f (x ∷ xs) (y ∷ ys) = x == f y && spelt f xs ys
 
--- what a word may do: nothing; end the query; end it with a pipe, and options in parentheses before it; take a pipe; read
--- the whole line
+-- what any word does that is not listed
 abbrev pub nothing : Command
-nothing = record { ends_query = false; takes_pipe = false; takes_options = false; reads_line = false }
+nothing =
+    record { ends_query = false; takes_pipe = false; takes_options = false; reads_line = false }
 
+-- a word that ends the query
 abbrev pub ends_query : Command
-ends_query = record { ends_query = true; takes_pipe = false; takes_options = false; reads_line = false }
+ends_query =
+    record { ends_query = true; takes_pipe = false; takes_options = false; reads_line = false }
 
+-- a word that ends it, and takes a pipe, and options in parentheses before that
 abbrev pub sends_query : Command
-sends_query = record { ends_query = true; takes_pipe = true; takes_options = true; reads_line = false }
+sends_query =
+    record { ends_query = true; takes_pipe = true; takes_options = true; reads_line = false }
 
+-- a word that takes a pipe
 abbrev pub takes_pipe : Command
-takes_pipe = record { ends_query = false; takes_pipe = true; takes_options = false; reads_line = false }
+takes_pipe =
+    record { ends_query = false; takes_pipe = true; takes_options = false; reads_line = false }
 
+-- a word that takes the rest of its line
 abbrev pub reads_line : Command
-reads_line = record { ends_query = false; takes_pipe = false; takes_options = false; reads_line = true }
+reads_line =
+    record { ends_query = false; takes_pipe = false; takes_options = false; reads_line = true }
 
 -- the words that do something
 abbrev pub words : List (List ℕ × LetterCase × Command)
@@ -111,18 +120,23 @@ before_pipe command xs =
 -- the rest of the line for a word that reads it, or from a pipe on; else arguments
 abbrev pub what_follows : Command → List ℕ → ℕ
 what_follows command xs =
-    if command.reads_line || (command.takes_pipe && peek 0 xs == byte "|") then run (all_but 10 13) xs
+    if command.reads_line || (command.takes_pipe && peek 0 xs == byte "|")
+    then run (all_but 10 13) xs
     else arguments Outside xs
 
 -- the word at the front: the longest run of command letters
 abbrev pub command_word : List ℕ → List ℕ
 command_word xs = take (run command_letter xs) xs
 
+-- what it does
 abbrev pub command : List ℕ → Command
 command xs = meaning (command_word xs)
 
+-- the bytes of the word and of what belongs to it
 abbrev pub command_len : List ℕ → ℕ
-command_len xs = followed (run command_letter) (followed (before_pipe (command xs)) (what_follows (command xs))) xs
+command_len xs =
+    followed (run command_letter)
+    (followed (before_pipe (command xs)) (what_follows (command xs))) xs
 
 -- after the backslash: `\`, `;` and `:` stand alone, and else a command follows
 abbrev pub psql_kind : List ℕ → TokenKind
@@ -132,6 +146,8 @@ psql_kind xs =
     else if peek 0 xs == byte ":" then Colon
     else PsqlCommand (command xs).ends_query
 
+-- the bytes after the backslash that belong to the token
 abbrev pub psql_len : List ℕ → ℕ
 psql_len xs =
-    if peek 0 xs == byte "\\" || (peek 0 xs == byte ";" || peek 0 xs == byte ":") then 1 else command_len xs
+    if peek 0 xs == byte "\\" || (peek 0 xs == byte ";" || peek 0 xs == byte ":") then 1
+    else command_len xs

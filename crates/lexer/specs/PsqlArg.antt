@@ -1,11 +1,15 @@
 -- The arguments of psql commands: how a reader of them goes from byte to byte, and where they end.
-use Rattle.std.specs.Prelude.{ℕ, ◌+◌, ◌-◌, ◌*◌, ◌%◌, Bool, true, false, if◌then◌else◌, ◌&&◌, ◌||◌, List, [], ◌∷◌, ◌==◌, nat_lt, Option, Some, None}
-use Rattle.lexer.specs.Byte.{byte}
+use Rattle.std.specs.Prelude.{ℕ, ◌+◌, ◌-◌, ◌*◌, ◌%◌, ◌==◌, nat_lt, Bool, true, false, if◌then◌else◌}
+use Rattle.std.specs.Prelude.{◌&&◌, ◌||◌, List, [], ◌∷◌, Option, Some, None}
 use Rattle.std.specs.Option.{option_map}
+use Rattle.lexer.specs.Byte.{byte}
 use Rattle.lexer.specs.Class.{backslash, between, decimal, hexadecimal, line_blank, line_end}
 use Rattle.lexer.specs.Cursor.{run}
 use Rattle.lexer.specs.declared.psql_arg.ArgState.{ArgState}
-use Rattle.lexer.specs.declared.psql_arg.ArgState.TheVariants.{Outside, Closing, Quoted, Escape, OneOctalDigit, TwoOctalDigits, HexMark, OneHexDigit, DoubleQuoted, Backquoted}
+use Rattle.lexer.specs.declared.psql_arg.ArgState.TheVariants.{Outside, Closing, Quoted, Escape}
+use Rattle.lexer.specs.declared.psql_arg.ArgState.TheVariants.{OneOctalDigit, TwoOctalDigits}
+use Rattle.lexer.specs.declared.psql_arg.ArgState.TheVariants.{HexMark, OneHexDigit}
+use Rattle.lexer.specs.declared.psql_arg.ArgState.TheVariants.{DoubleQuoted, Backquoted}
 
 -- 0 to 7
 abbrev pub octal : ℕ → Bool
@@ -18,7 +22,8 @@ hex_value b =
     else if nat_lt b (byte "a") then b - byte "A" + 10
     else b - byte "a" + 10
 
--- outside all quotes; a single quote that closes may still turn out to be the first of two that stand for one
+-- outside all quotes; a single quote that closes may still turn out to be the first of two that
+-- stand for one
 abbrev pub outside : ArgState → Bool
 outside Outside = true
 outside Closing = true
@@ -51,11 +56,13 @@ after_outside b =
 abbrev pub after_quoted : ℕ → ArgState
 after_quoted b = if b == byte "'" then Closing else if backslash b then Escape else Quoted
 
--- after that backslash: octal digits or an `x` with hexadecimal ones follow, or the character stands for itself
+-- after that backslash: octal digits or an `x` with hexadecimal ones follow, or the character
+-- stands for itself
 abbrev pub after_escape : ℕ → ArgState
 after_escape b = if octal b then OneOctalDigit else if b == byte "x" then HexMark else Quoted
 
--- the state after one more byte; an octal escape has up to three digits, a hexadecimal one up to two
+-- the state after one more byte; an octal escape has up to three digits, a hexadecimal one up to
+-- two
 abbrev pub after : ArgState → ℕ → ArgState
 after Outside b = after_outside b
 after Closing b = after_outside b
@@ -76,10 +83,10 @@ last_quoted last b = if b == byte "'" then last else if backslash b then last el
 abbrev pub with_digit : Option ℕ → ℕ → ℕ → Option ℕ
 with_digit last base digit = option_map (λ so_far. (so_far * base + digit) % 256) last
 
--- the last character of the argument's value after one more byte: digits of an escape count as the character
--- that they stand for so far, other escapes as their letter (a control character is no parenthesis either), two single
--- quotes as one, an opening or closing single quote as nothing, a double quote as itself, and a command in backticks
--- leaves none
+-- the last character of the argument's value after one more byte: digits of an escape count as the
+-- character that they stand for so far, other escapes as their letter (a control character is no
+-- parenthesis either), two single quotes as one, an opening or closing single quote as nothing, a
+-- double quote as itself, and a command in backticks leaves none
 abbrev pub last_after : ArgState → Option ℕ → ℕ → Option ℕ
 last_after Outside last b = if b == byte "'" then last else Some b
 last_after Closing last b = Some b
@@ -98,6 +105,7 @@ last_after OneHexDigit last b =
 last_after DoubleQuoted last b = Some b
 last_after Backquoted last b = None
 
+-- whether the last character is a closing parenthesis
 abbrev pub is_parenthesis : Option ℕ → Bool
 is_parenthesis None = false
 is_parenthesis (Some b) = b == byte ")"
@@ -107,10 +115,12 @@ unfoldable pub arguments : ArgState → List ℕ → ℕ
 arguments state [] = 0
 arguments state (x ∷ xs) = if stops state x then 0 else 1 + arguments (after state x) xs
 
--- the bytes of the options of `\g (`: all arguments up to the first whose value ends with `)`, and the blanks after it
+-- the bytes of the options of `\g (`: all arguments up to the first whose value ends with `)`, and
+-- the blanks after it
 unfoldable pub options : ArgState → Option ℕ → List ℕ → ℕ
 options state last [] = 0
 options state last (x ∷ xs) =
     if stops state x then 0
-    else if separates state x then (if is_parenthesis last then run line_blank (x ∷ xs) else 1 + options Outside None xs)
+    else if separates state x && is_parenthesis last then run line_blank (x ∷ xs)
+    else if separates state x then 1 + options Outside None xs
     else 1 + options (after state x) (last_after state last x) xs

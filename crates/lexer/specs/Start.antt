@@ -19,8 +19,8 @@ kind_under b (c ∷ cs) (kind ∷ kinds) = if b == c then kind else kind_under b
 abbrev pub symbol : ℕ → TokenKind
 symbol b =
     kind_under b (codes ";,()[]{}@#~?:./-`=!<>&|+*^%")
-    (Semi ∷ Comma ∷ OpenParen ∷ CloseParen ∷ OpenBracket ∷ CloseBracket ∷ OpenCurly ∷ CloseCurly ∷ At
-    ∷ Pound ∷ Tilde ∷ Question ∷ Colon ∷ Dot ∷ Slash ∷ Minus ∷ Backtick ∷ Eq
+    (Semi ∷ Comma ∷ OpenParen ∷ CloseParen ∷ OpenBracket ∷ CloseBracket ∷ OpenCurly ∷ CloseCurly
+    ∷ At ∷ Pound ∷ Tilde ∷ Question ∷ Colon ∷ Dot ∷ Slash ∷ Minus ∷ Backtick ∷ Eq
     ∷ Bang ∷ Lt ∷ Gt ∷ And ∷ Or ∷ Plus ∷ Star ∷ Caret ∷ Percent ∷ [])
 
 -- what starts with a byte, whatever follows it
@@ -32,7 +32,8 @@ plain_start b =
     else if b == byte "$" then Dollar
     else if b == byte "\\" then Command
     else if b == byte "'" then Quote
-    else if b == byte "\"" then DoubleQuote else Symbol (symbol b)
+    else if b == byte "\"" then DoubleQuote
+    else Symbol (symbol b)
 
 -- what starts with a byte directly before a `'`
 abbrev pub quoted_start : ℕ → Start
@@ -40,7 +41,8 @@ quoted_start b =
     if either_case (byte "e") b then Prefixed Esc
     else if either_case (byte "b") b then Prefixed Bit
     else if either_case (byte "x") b then Prefixed Byte
-    else if either_case (byte "n") b then Prefixed National else plain_start b
+    else if either_case (byte "n") b then Prefixed National
+    else plain_start b
 
 -- what starts with `U&`, by what follows
 abbrev pub unicode_start : ℕ → Start
@@ -57,4 +59,5 @@ start_of first next after =
     else if first == byte "." && next == byte "." then TwoDots
     else if first == byte "." && decimal next then Point
     else if either_case (byte "u") first && next == byte "&" then unicode_start after
-    else if next == byte "'" then quoted_start first else plain_start first
+    else if next == byte "'" then quoted_start first
+    else plain_start first

@@ -1,4 +1,5 @@
--- What PostgreSQL's chapter "Lexical Structure" says of tokens: comments, identifiers, whitespace, parameters and numbers.
+-- What PostgreSQL's chapter "Lexical Structure" says of tokens: comments, identifiers, whitespace,
+-- parameters and numbers.
 use Rattle.std.specs.Prelude.{codes, ◌≡◌, ℕ, ◌+◌, ◌<◌, ◌≤◌, Bool, true, false, if◌then◌else◌, ◌&&◌, ◌||◌, ◌⊎◌, List, [], ◌∷◌, ◌++◌, length, take, drop, Some, None, Option, ◌==◌}
 use Rattle.lexer.specs.Byte.{byte}
 use Rattle.lexer.specs.Class.{all_but, decimal, hexadecimal, ident_cont, ident_start, whitespace}
@@ -12,11 +13,15 @@ use Rattle.lexer.specs.declared.token.LiteralKind.TheVariants.{Int, Numeric}
 use Rattle.lexer.specs.declared.token.Token.{Token}
 use Rattle.lexer.specs.declared.token.TokenKind.TheVariants.{BlockComment, Ident, LineComment, Literal, PositionalParam, Whitespace}
 
--- what holds of every token at every place of every text: of the token, its bytes, and the bytes that follow it
+-- what holds of every token at every place of every text: of the token, its bytes, and the bytes
+-- that follow it
 abbrev pub Always : (Token → List ℕ → List ℕ → Type 0) → Type 0
-Always P = (bs : List ℕ) (place : ℕ) (t : Token) → token_at bs place ≡ Some t → P t (take t.len (drop place bs)) (drop (place + t.len) bs)
+Always P =
+    (bs : List ℕ) (place : ℕ) (t : Token) → token_at bs place ≡ Some t
+    → P t (take t.len (drop place bs)) (drop (place + t.len) bs)
 
--- how many `/*` a list holds, and how many `*/`: the marks are read from left to right, and no two share a byte
+-- how many `/*` a list holds, and how many `*/`: the marks are read from left to right, and no two
+-- share a byte
 unfoldable pub openers : List ℕ → ℕ
 openers [] = 0
 openers (a ∷ []) = 0
@@ -33,7 +38,8 @@ closers (a ∷ b ∷ xs) =
     else if closes a b then 1 + closers xs
     else closers (b ∷ xs)
 
--- a closed block comment begins with `/*` and has as many `*/`; each shorter front with that first mark has fewer
+-- a closed block comment begins with `/*` and has as many `*/`; each shorter front with that first
+-- mark has fewer
 pub record Closed (token : List ℕ) : Type 0 where
   pub begins : take 2 token ≡ codes "/*"
   pub even : closers token ≡ openers token
@@ -42,7 +48,8 @@ pub record Closed (token : List ℕ) : Type 0 where
 abbrev pub ClosedComments : Type 0
 ClosedComments = Always (λ t token next. t.kind ≡ BlockComment true → Closed token)
 
--- one that is not closed runs to the end of the text, and all its fronts with the first mark have fewer
+-- one that is not closed runs to the end of the text, and all its fronts with the first mark have
+-- fewer
 pub record Unclosed (token next : List ℕ) : Type 0 where
   pub begins : take 2 token ≡ codes "/*"
   pub to_end : next ≡ []
@@ -61,9 +68,12 @@ pub record Longest (class : ℕ → Bool) (bytes next : List ℕ) : Type 0 where
   pub all : every class bytes ≡ true
   pub ends : leads class next ≡ false
 
--- a line comment is `--` and all that follows it before a line feed, a carriage return or the end of the text
+-- a line comment is `--` and all that follows it before a line feed, a carriage return or the end
+-- of the text
 abbrev pub LineComments : Type 0
-LineComments = Always (λ t token next. t.kind ≡ LineComment → (take 2 token ≡ codes "--") × Longest (all_but 10 13) token next)
+LineComments =
+    Always (λ t token next. t.kind ≡ LineComment
+    → (take 2 token ≡ codes "--") × Longest (all_but 10 13) token next)
 
 -- a name or key word without quotes: a byte that starts one, and all bytes that go on with it
 pub record Name (bytes next : List ℕ) : Type 0 where
@@ -82,7 +92,8 @@ pub record Blank (bytes next : List ℕ) : Type 0 where
 abbrev pub Whitespaces : Type 0
 Whitespaces =
     (bs : List ℕ) (place : ℕ) (t : Token) → token_at bs place ≡ Some t → t.kind ≡ Whitespace
-    → Blank (take t.len (drop place bs)) (drop (place + t.len) bs) ⊎ ((place ≡ 0) × (take t.len bs ≡ 239 ∷ 187 ∷ 191 ∷ []))
+    → Blank (take t.len (drop place bs)) (drop (place + t.len) bs)
+    ⊎ ((place ≡ 0) × (take t.len bs ≡ 239 ∷ 187 ∷ 191 ∷ []))
 
 -- junk stands after a number or a parameter without a break: a name, or nothing where none starts
 abbrev pub Junk : List ℕ → List ℕ → Type 0
@@ -94,10 +105,14 @@ pub record JunkFrom (offset : ℕ) (token next : List ℕ) : Type 0 where
   pub junk : Junk (drop offset token) next
 
 abbrev pub JunkOfInts : Type 0
-JunkOfInts = Always (λ t token next. (base : Base) (empty : Bool) (offset : ℕ) → t.kind ≡ Literal (Int base empty offset) → JunkFrom offset token next)
+JunkOfInts =
+    Always (λ t token next. (base : Base) (empty : Bool) (offset : ℕ)
+    → t.kind ≡ Literal (Int base empty offset) → JunkFrom offset token next)
 
 abbrev pub JunkOfNumerics : Type 0
-JunkOfNumerics = Always (λ t token next. (empty : Option ℕ) (offset : ℕ) → t.kind ≡ Literal (Numeric empty offset) → JunkFrom offset token next)
+JunkOfNumerics =
+    Always (λ t token next. (empty : Option ℕ) (offset : ℕ)
+    → t.kind ≡ Literal (Numeric empty offset) → JunkFrom offset token next)
 
 -- a parameter is `$`, all decimal digits that follow it, and junk
 pub record Parameter (offset : ℕ) (token next : List ℕ) : Type 0 where
@@ -106,21 +121,26 @@ pub record Parameter (offset : ℕ) (token next : List ℕ) : Type 0 where
   pub after : JunkFrom offset token next
 
 abbrev pub Parameters : Type 0
-Parameters = Always (λ t token next. (offset : ℕ) → t.kind ≡ PositionalParam offset → Parameter offset token next)
+Parameters =
+    Always (λ t token next. (offset : ℕ) → t.kind ≡ PositionalParam offset
+    → Parameter offset token next)
 
 -- digits, with a single underscore or none between two of them
 unfoldable pub grouped : (ℕ → Bool) → List ℕ → Bool
 grouped digit [] = false
 grouped digit (x ∷ []) = digit x
-grouped digit (x ∷ y ∷ xs) = digit x && (grouped digit (y ∷ xs) || (y == byte "_" && grouped digit xs))
+grouped digit (x ∷ y ∷ xs) =
+    digit x && (grouped digit (y ∷ xs) || (y == byte "_" && grouped digit xs))
 
 -- `0`, a letter in either case, an underscore or none, and digits
 pub data Based (letter : ℕ) (digit : ℕ → Bool) : List ℕ → Type 0 where
-  direct : (mark : ℕ) (ds : List ℕ) → either_case letter mark ≡ true → grouped digit ds ≡ true → Based letter digit (byte "0" ∷ mark ∷ ds)
-  underscored : (mark : ℕ) (ds : List ℕ) → either_case letter mark ≡ true → grouped digit ds ≡ true → Based letter digit (byte "0" ∷ mark ∷ byte "_" ∷ ds)
+  direct : (mark : ℕ) (ds : List ℕ) → either_case letter mark ≡ true → grouped digit ds ≡ true
+      → Based letter digit (byte "0" ∷ mark ∷ ds)
+  underscored : (mark : ℕ) (ds : List ℕ) → either_case letter mark ≡ true → grouped digit ds ≡ true
+      → Based letter digit (byte "0" ∷ mark ∷ byte "_" ∷ ds)
 
--- a whole number is decimal digits, or has a prefix: `0x` and hexadecimal digits, or `0b` or `0o` and decimal digits, since
--- a digit too high for its base is no end of the number
+-- a whole number is decimal digits, or has a prefix: `0x` and hexadecimal digits, or `0b` or `0o`
+-- and decimal digits, since a digit too high for its base is no end of the number
 abbrev pub Whole : Base → List ℕ → Type 0
 Whole Binary xs = Based (byte "b") decimal xs
 Whole Octal xs = Based (byte "o") decimal xs
@@ -129,41 +149,56 @@ Whole Hexadecimal xs = Based (byte "x") hexadecimal xs
 
 -- an exponent is `e`, a sign or none, and digits
 pub data Exponent : List ℕ → Type 0 where
-  unsigned : (e : ℕ) (ds : List ℕ) → exponent_mark e ≡ true → grouped decimal ds ≡ true → Exponent (e ∷ ds)
-  signed : (e s : ℕ) (ds : List ℕ) → exponent_mark e ≡ true → sign s ≡ true → grouped decimal ds ≡ true → Exponent (e ∷ s ∷ ds)
+  unsigned : (e : ℕ) (ds : List ℕ) → exponent_mark e ≡ true → grouped decimal ds ≡ true
+      → Exponent (e ∷ ds)
+  signed : (e s : ℕ) (ds : List ℕ) → exponent_mark e ≡ true → sign s ≡ true
+      → grouped decimal ds ≡ true → Exponent (e ∷ s ∷ ds)
 
 abbrev pub ExponentOrNone : List ℕ → Type 0
 ExponentOrNone xs = Exponent xs ⊎ (xs ≡ [])
 
--- a number with a point or an exponent: `4.`, `3.5` and `.001`, each with an exponent or none, and `5e2`
+-- a number with a point or an exponent: `4.`, `3.5` and `.001`, each with an exponent or none, and
+-- `5e2`
 pub data Fractional : List ℕ → Type 0 where
-  point_last : (ds es : List ℕ) → grouped decimal ds ≡ true → ExponentOrNone es → Fractional (ds ++ byte "." ∷ es)
-  point_within : (ds fs es : List ℕ) → grouped decimal ds ≡ true → grouped decimal fs ≡ true → ExponentOrNone es → Fractional (ds ++ byte "." ∷ (fs ++ es))
-  point_first : (fs es : List ℕ) → grouped decimal fs ≡ true → ExponentOrNone es → Fractional (byte "." ∷ (fs ++ es))
+  point_last : (ds es : List ℕ) → grouped decimal ds ≡ true → ExponentOrNone es
+      → Fractional (ds ++ byte "." ∷ es)
+  point_within : (ds fs es : List ℕ) → grouped decimal ds ≡ true → grouped decimal fs ≡ true
+      → ExponentOrNone es → Fractional (ds ++ byte "." ∷ (fs ++ es))
+  point_first : (fs es : List ℕ) → grouped decimal fs ≡ true → ExponentOrNone es
+      → Fractional (byte "." ∷ (fs ++ es))
   no_point : (ds es : List ℕ) → grouped decimal ds ≡ true → Exponent es → Fractional (ds ++ es)
 
 -- a number without junk, not empty and without an empty exponent, is of one of these forms
 abbrev pub WholeNumbers : Type 0
-WholeNumbers = Always (λ t token next. (base : Base) → t.kind ≡ Literal (Int base false t.len) → Whole base token)
+WholeNumbers =
+    Always (λ t token next. (base : Base) → t.kind ≡ Literal (Int base false t.len)
+    → Whole base token)
 
 abbrev pub FractionalNumbers : Type 0
-FractionalNumbers = Always (λ t token next. t.kind ≡ Literal (Numeric None t.len) → Fractional token)
+FractionalNumbers =
+    Always (λ t token next. t.kind ≡ Literal (Numeric None t.len) → Fractional token)
 
--- what follows a number does not go on with it: its first byte, 0 past the end, is no digit and starts no name
+-- what follows a number does not go on with it: its first byte, 0 past the end, is no digit and
+-- starts no name
 abbrev pub Stops : List ℕ → Type 0
 Stops next = (decimal (peek 0 next) ≡ false) × (ident_start (peek 0 next) ≡ false)
 
--- conversely, each form is read as that number: a whole number before what stops it and is no point, unless there are two
+-- conversely, each form is read as that number: a whole number before what stops it and is no
+-- point, unless there are two
 abbrev pub WholeRead : Type 0
 WholeRead =
-    (bs : List ℕ) (place : ℕ) (base : Base) (xs next : List ℕ) → drop place bs ≡ xs ++ next → Whole base xs → Stops next → has_point next ≡ false
-    → token_at bs place ≡ Some record { kind = Literal (Int base false (length xs)); len = length xs }
+    (bs : List ℕ) (place : ℕ) (base : Base) (xs next : List ℕ) → drop place bs ≡ xs ++ next
+    → Whole base xs → Stops next → has_point next ≡ false
+    → token_at bs place
+    ≡ Some record { kind = Literal (Int base false (length xs)); len = length xs }
 
 -- and one with a point or an exponent before what stops it and is no point
 abbrev pub FractionalRead : Type 0
 FractionalRead =
-    (bs : List ℕ) (place : ℕ) (xs next : List ℕ) → drop place bs ≡ xs ++ next → Fractional xs → Stops next → (peek 0 next == byte ".") ≡ false
-    → token_at bs place ≡ Some record { kind = Literal (Numeric None (length xs)); len = length xs }
+    (bs : List ℕ) (place : ℕ) (xs next : List ℕ) → drop place bs ≡ xs ++ next → Fractional xs
+    → Stops next → (peek 0 next == byte ".") ≡ false
+    → token_at bs place
+    ≡ Some record { kind = Literal (Numeric None (length xs)); len = length xs }
 
 -- all of these
 pub record TokenLaws : Type 0 where

@@ -6,10 +6,10 @@ ghost use Rattle.lexer.specs.AllLaws.{AllLaws};
 ghost use Rattle.lexer.specs.Lex.{kind_of, marked, rest_len, start_with, token_at, token_from};
 ghost use Rattle.lexer.specs.Token.{is_eof};
 
-use crate::cursor::{Cursor, byte_at};
+use crate::cursor::Cursor;
 use crate::quoted::Prefix;
 use crate::start::{Start, start_of};
-use crate::token::{LiteralKind, Token, TokenKind};
+use crate::token::{Token, TokenKind};
 use text::Text;
 
 impl<'a, T: Text> Cursor<'a, T> {
@@ -57,11 +57,7 @@ impl<'a, T: Text> Cursor<'a, T> {
             Start::UnicodeIdent => {
                 self.bump();
                 self.bump();
-                let terminated = self.double_quoted_string();
-                TokenKind::QuotedIdent {
-                    terminated,
-                    uescape: true,
-                }
+                self.quoted_ident(true)
             }
             Start::Word => self.ident(),
             Start::Digit => TokenKind::Literal {
@@ -76,29 +72,19 @@ impl<'a, T: Text> Cursor<'a, T> {
             }
             Start::Dollar => self.dollar(),
             Start::Command => self.psql_command(),
-            Start::Quote => {
-                let terminated = self.single_quoted_string(false);
-                TokenKind::Literal {
-                    kind: LiteralKind::Str { terminated },
-                }
-            }
-            Start::DoubleQuote => {
-                let terminated = self.double_quoted_string();
-                TokenKind::QuotedIdent {
-                    terminated,
-                    uescape: false,
-                }
-            }
+            Start::Quote => self.plain_string(),
+            Start::DoubleQuote => self.quoted_ident(false),
             Start::Symbol(kind) => kind,
         }
     }
 }
 
-/// The token that begins at a place of the text, or none where the place is not below the length. A byte-order mark at the
-/// very start is whitespace of its own.
+/// The token that begins at a place of the text, or none where the place is not below the length. A
+/// byte-order mark at the very start is whitespace of its own.
 pub fn token_at<T: Text>(text: &T, place: u32) -> Option<Token>
     ensures value { result ≡ token_at (T.bytes text.now) place }
-    ensures inside { MatchOption result (length (T.bytes text.now) ≤ place) (λ t. (0 < t.len) × (place + t.len ≤ length (T.bytes text.now))) }
+    ensures inside { MatchOption result (length (T.bytes text.now) ≤ place)
+        (λ t. (0 < t.len) × (place + t.len ≤ length (T.bytes text.now))) }
     ensures laws { AllLaws }
     ensures real { IfSome result (λ t. is_eof t.kind ≡ false) }
 {
@@ -118,5 +104,8 @@ pub fn token_at<T: Text>(text: &T, place: u32) -> Option<Token>
 fn starts_with_mark<T: Text>(text: &T) -> bool
     ensures { result ≡ marked (T.bytes text.now) }
 {
-    byte_at(text, 0) == 0xef && byte_at(text, 1) == 0xbb && byte_at(text, 2) == 0xbf
+    matches!(
+        (text.byte(0), text.byte(1), text.byte(2)),
+        (Some(0xef), Some(0xbb), Some(0xbf))
+    )
 }

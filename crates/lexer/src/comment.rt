@@ -5,7 +5,7 @@ ghost use Rattle.lexer.specs.Class.{all_but};
 ghost use Rattle.lexer.specs.Comment.{comment, comment_closed};
 ghost use Rattle.lexer.specs.Cursor.{Eats, rest, run};
 
-use crate::cursor::{Cursor, Reach, byte_at};
+use crate::cursor::{Cursor, Reach};
 use crate::token::TokenKind;
 use text::Text;
 
@@ -29,27 +29,30 @@ impl<'a, T: Text> Cursor<'a, T> {
     }
 }
 
-/// Where the comment ends whose opening mark ends at the place: after as many `*/` as `/*`, or with the text. And whether
-/// it is closed.
+/// Where the comment ends whose opening mark ends at the place: after as many `*/` as `/*`, or with the
+/// text. And whether it is closed.
+#[tactic(auto, using(crate::proofs::Comments::comment_turns))]
 fn comment_end<T: Text>(text: &T, place: u32) -> Reach
     ensures end { result.end ≡ place + comment 1 (drop place (T.bytes text.now)) }
     ensures closed { result.closed ≡ comment_closed 1 (drop place (T.bytes text.now)) }
 {
     let mut depth: usize = 1;
     let mut end = place;
+    // A turn takes one byte or two, and the place is the answer.
     while let Some(byte) = text.byte(end) {
-        let next = byte_at(text, end + 1);
-        if byte == b'/' && next == b'*' {
-            depth += 1;
-            end += 2;
-        } else if byte == b'*' && next == b'/' {
-            depth -= 1;
-            end += 2;
-            if depth == 0 {
-                break;
+        match (byte, text.byte(end + 1)) {
+            (b'/', Some(b'*')) => {
+                depth += 1;
+                end += 2;
             }
-        } else {
-            end += 1;
+            (b'*', Some(b'/')) => {
+                depth -= 1;
+                end += 2;
+                if depth == 0 {
+                    break;
+                }
+            }
+            _ => end += 1,
         }
     }
     Reach {

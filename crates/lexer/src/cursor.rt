@@ -1,6 +1,6 @@
 //! The cursor: a place in a text, which eats the characters of one token after another.
 
-ghost use Rattle.std.specs.Prelude.{◌≡◌, ℕ, ◌+◌, ◌-◌, ◌<◌, ◌≤◌, ◌&&◌, length, drop, ◌==◌, slice_index};
+ghost use Rattle.std.specs.Prelude.{◌≡◌, ℕ, ◌+◌, ◌-◌, ◌<◌, ◌≤◌, ◌&&◌, length, drop, ◌==◌};
 ghost use Rattle.lexer.specs.Class.{all_but, ident_cont, whitespace};
 ghost use Rattle.lexer.specs.Cursor.{Eats, Moved, at_end, digit_met, digits, identifier, leads, next_len, opened, peek, rest, run};
 ghost use Rattle.std.specs.List.{slice_get};
@@ -25,7 +25,8 @@ pub(crate) struct Reach {
     pub(crate) closed: bool,
 }
 
-/// What stands for a character past the end. A text may hold it too: `is_eof` tells the two apart.
+/// What stands for a character past the end, as in the Rust's cursor. A text may hold it too: `is_eof`
+/// tells the two apart.
 pub(crate) const EOF_CHAR: char = '\0';
 
 impl<'a, T: Text> Model for Cursor<'a, T> {
@@ -34,7 +35,8 @@ impl<'a, T: Text> Model for Cursor<'a, T> {
 
     ghost Value = { Spot };
 
-    ghost view = { λ c. record { text = T.bytes c.text.now; place = c.place; eaten = c.place - c.start } };
+    ghost view = { λ c.
+        record { text = T.bytes c.text.now; place = c.place; eaten = c.place - c.start } };
 
     ghost invariant = { λ c. c.start ≤ c.place };
 }
@@ -65,13 +67,11 @@ impl<'a, T: Text> Cursor<'a, T> {
         self.peek_char(1)
     }
 
+    #[tactic(auto, using(crate::proofs::Turns::peek_at))]
     fn peek_char(&self, ahead: u32) -> char
         ensures { result ≡ peek ahead (rest self.now) }
     {
-        match self.byte_ahead(ahead) {
-            Some(byte) => char::from(byte),
-            None => EOF_CHAR,
-        }
+        self.byte_ahead(ahead).map_or(EOF_CHAR, char::from)
     }
 
     fn byte_ahead(&self, ahead: u32) -> Option<u8>
@@ -85,10 +85,7 @@ impl<'a, T: Text> Cursor<'a, T> {
     pub(crate) fn next_in<C: Class>(&self, class: &C) -> bool
         ensures { result ≡ leads (C.holds class.now) (rest self.now) }
     {
-        match self.byte_ahead(0) {
-            Some(byte) => class.has(byte),
-            None => false,
-        }
+        self.byte_ahead(0).is_some_and(|byte| class.has(byte))
     }
 
     /// The character after the longest run of characters of the class.
@@ -221,17 +218,15 @@ pub(crate) fn run_end<C: Class, T: Text>(text: &T, place: u32, class: &C) -> u32
     ensures { result ≡ place + run (C.holds class.now) (drop place (T.bytes text.now)) }
 {
     let mut end = place;
-    while let Some(byte) = text.byte(end) {
-        if !class.has(byte) {
-            break;
-        }
+    // A text is asked for one byte after another: it need not lie in a slice.
+    while text.byte(end).is_some_and(|byte| class.has(byte)) {
         end += 1;
     }
     end
 }
 
-/// Where the run of digits ends that begins at the place, and whether a digit was met. An underscore belongs to the run
-/// only if a digit follows it.
+/// Where the run of digits ends that begins at the place, and whether a digit was met: a pair, which the
+/// rules of numbers take apart. An underscore belongs to the run only if a digit follows it.
 #[tactic(auto, using(crate::proofs::Turns::turns))]
 fn digit_run<C: DigitClass, T: Text>(text: &T, place: u32) -> (u32, bool)
     ensures end { result.0 ≡ place + digits C.digit (drop place (T.bytes text.now)) }
@@ -239,6 +234,7 @@ fn digit_run<C: DigitClass, T: Text>(text: &T, place: u32) -> (u32, bool)
 {
     let mut end = place;
     let mut met = false;
+    // The place is an answer, and a turn may look one byte ahead.
     while let Some(byte) = text.byte(end) {
         if C::has_digit(byte) {
             met = true;
@@ -250,23 +246,11 @@ fn digit_run<C: DigitClass, T: Text>(text: &T, place: u32) -> (u32, bool)
     (end, met)
 }
 
-/// The byte at a place, or 0 past the end.
-pub(crate) fn byte_at<T: Text>(text: &T, place: u32) -> u8
-    ensures { result ≡ slice_index (T.bytes text.now) place }
-{
-    text.byte(place).unwrap_or(0)
-}
-
 /// Whether the byte at the place is an underscore that a digit of the class follows.
+#[tactic(auto, using(crate::proofs::Turns::leads_at))]
 fn is_joint<C: DigitClass, T: Text>(text: &T, place: u32, byte: u8) -> bool
     requires { place < length (T.bytes text.now) }
     ensures { result ≡ (byte == 95 && leads C.digit (drop (place + 1) (T.bytes text.now))) }
 {
-    if byte != b'_' {
-        return false;
-    }
-    match text.byte(place + 1) {
-        Some(next) => C::has_digit(next),
-        None => false,
-    }
+    byte == b'_' && text.byte(place + 1).is_some_and(|next| C::has_digit(next))
 }

@@ -1,12 +1,13 @@
 //! What starts with a dollar sign: dollar-quoted strings and parameters.
 
-ghost use Rattle.std.specs.Prelude.{◌≡◌, ◌+◌, ◌-◌, ◌<◌, ◌≤◌, true, length, take, drop, slice_index};
+ghost use Rattle.std.specs.Prelude.{◌≡◌, ◌+◌, ◌≤◌, true, length, drop};
 ghost use Rattle.lexer.specs.Class.{decimal};
 ghost use Rattle.lexer.specs.Cursor.{Begun, Eats, rest, run};
 ghost use Rattle.lexer.specs.Dollar.{begins, delimited, delimited_closed, dollar_closed, dollar_kind, dollar_len, dollar_quoted, opens_dollar, parameter};
 
 use crate::class::{DecimalDigit, IdentStart, TagCont};
-use crate::cursor::{Cursor, Reach, byte_at};
+use crate::cursor::{Cursor, Reach};
+use crate::piece::Piece;
 use crate::token::{LiteralKind, TokenKind};
 use text::Text;
 
@@ -37,8 +38,8 @@ impl<'a, T: Text> Cursor<'a, T> {
         self.next_in(&IdentStart) && self.char_after_run(&TagCont) == '$'
     }
 
-    /// Eats the rest of the opening delimiter and all up to and with the first whole delimiter after it. Says whether
-    /// there is one.
+    /// Eats the rest of the opening delimiter and all up to and with the first whole delimiter
+    /// after it. Says whether there is one.
     fn dollar_quoted_string(&mut self) -> bool
         requires sign { Begun 36 self.old }
         requires opens { opens_dollar (rest self.old) ≡ true }
@@ -48,12 +49,18 @@ impl<'a, T: Text> Cursor<'a, T> {
         let opener = self.place() - 1;
         self.eat_while(&TagCont);
         self.bump();
-        self.pass(dollar_end(self.text(), opener, self.place() - opener))
+        let delimiter = Piece {
+            text: self.text(),
+            place: opener,
+            len: self.place() - opener,
+        };
+        self.pass(dollar_end(self.text(), self.place(), &delimiter))
     }
 
     /// The digits of a parameter, and its junk.
     fn positional_param(&mut self) -> TokenKind
-        ensures kind { result ≡ TokenKind.PositionalParam (self.old.eaten + run decimal (rest self.old)) }
+        ensures kind { result ≡ TokenKind.PositionalParam
+            (self.old.eaten + run decimal (rest self.old)) }
         ensures moved { Eats parameter self.old self.new }
     {
         self.eat_while(&DecimalDigit);
@@ -65,19 +72,21 @@ impl<'a, T: Text> Cursor<'a, T> {
     }
 }
 
-/// Where the string ends whose opening delimiter stands at a place: after the first delimiter beyond it, or with the text.
-/// And whether it is closed. A tag holds no `$`, so a comparison at a place that turns out wrong stops before the
-/// next `$`: all of them together go over the text twice at most.
-fn dollar_end<T: Text>(text: &T, opener: u32, len: u32) -> Reach
-    requires some { 0 < len }
-    requires within { opener + len ≤ length (T.bytes text.now) }
-    ensures end { result.end ≡ opener + len + delimited (take len (drop opener (T.bytes text.now))) (drop (opener + len) (T.bytes text.now)) }
-    ensures closed { result.closed ≡ delimited_closed (take len (drop opener (T.bytes text.now))) (drop (opener + len) (T.bytes text.now)) }
+/// Where the string ends that begins at a place, after its opening delimiter: after the next
+/// delimiter, or with the text. And whether it is closed. A tag holds no `$`, so a comparison at a
+/// place that turns out wrong stops before the next `$`: all of them together go over the text
+/// twice at most.
+fn dollar_end<T: Text, D: Text>(text: &T, place: u32, delimiter: &D) -> Reach
+    requires { place ≤ length (T.bytes text.now) }
+    ensures end { result.end ≡ place + delimited (D.bytes delimiter.now)
+        (drop place (T.bytes text.now)) }
+    ensures closed { result.closed ≡ delimited_closed (D.bytes delimiter.now)
+        (drop place (T.bytes text.now)) }
 {
-    for end in opener + len..text.len() {
-        if repeats(text, opener, len, end) {
+    for end in place..text.len() {
+        if stands_at(text, end, delimiter) {
             return Reach {
-                end: end + len,
+                end: end + delimiter.len(),
                 closed: true,
             };
         }
@@ -88,19 +97,13 @@ fn dollar_end<T: Text>(text: &T, opener: u32, len: u32) -> Reach
     }
 }
 
-/// Whether the bytes at a place repeat those of a range before it.
-fn repeats<T: Text>(text: &T, from: u32, len: u32, place: u32) -> bool
-    requires within { from + len ≤ length (T.bytes text.now) }
-    requires inside { place ≤ length (T.bytes text.now) }
-    ensures { result ≡ begins (take len (drop from (T.bytes text.now))) (drop place (T.bytes text.now)) }
+/// Whether the delimiter stands at a place of the text.
+fn stands_at<T: Text, D: Text>(text: &T, place: u32, delimiter: &D) -> bool
+    requires { place ≤ length (T.bytes text.now) }
+    ensures { result ≡ begins (D.bytes delimiter.now) (drop place (T.bytes text.now)) }
 {
-    if text.len() - place < len {
-        return false;
-    }
-    for i in 0..len {
-        if byte_at(text, from + i) != byte_at(text, place + i) {
-            return false;
-        }
-    }
-    true
+    delimiter.len() <= text.len() - place
+        && (0..delimiter.len())
+            .zip(place..text.len())
+            .all(|(index, at)| delimiter.byte(index) == text.byte(at))
 }

@@ -7,6 +7,7 @@ mod comment;
 mod cursor;
 mod dollar;
 mod number;
+mod piece;
 mod psql;
 mod psql_arg;
 mod quoted;

@@ -4,7 +4,6 @@ ghost use Rattle.std.specs.Prelude.{◌≡◌, ◌+◌, ◌-◌, ◌≤◌, not,
 ghost use Rattle.lexer.specs.Byte.{byte};
 ghost use Rattle.lexer.specs.Cursor.{Eats, rest};
 ghost use Rattle.lexer.specs.Number.{after_digits, after_digits_len, base_of, based, based_len, decimal_len, decimal_number, empty_exponent, exponent, exponent_digits, exponent_mark, exponent_tail, fractional, fractional_len, number, number_len, numeric, numeric_len, sign};
-ghost use Rattle.lexer.specs.Class.{decimal};
 
 use crate::class::{DecimalDigit, DigitClass, HexDigit};
 use crate::cursor::Cursor;
@@ -85,7 +84,7 @@ impl<'a, T: Text> Cursor<'a, T> {
         ensures kind { result ≡ fractional self.old.eaten (rest self.old) }
         ensures moved { Eats fractional_len self.old self.new }
     {
-        if is_digit(self.first()) {
+        if self.first().is_ascii_digit() {
             self.eat_digits::<DecimalDigit>();
         }
         self.eat_numeric()
@@ -141,17 +140,11 @@ impl<'a, T: Text> Cursor<'a, T> {
         ensures { result ≡ exponent_digits (rest self.now) }
     {
         if is_sign(self.first()) {
-            is_digit(self.second())
+            self.second().is_ascii_digit()
         } else {
-            is_digit(self.first())
+            self.first().is_ascii_digit()
         }
     }
-}
-
-fn is_digit(c: char) -> bool
-    ensures { result ≡ decimal c }
-{
-    matches!(c, '0'..='9')
 }
 
 /// Whether the first is a point of a number: `1..10` is 1, .. and 10.

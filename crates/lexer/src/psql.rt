@@ -1,13 +1,14 @@
 //! psql commands: the word after the backslash, and how far the command reaches.
 
-ghost use Rattle.std.specs.Prelude.{◌≡◌, ◌-◌, ◌≤◌, map, length, take, drop};
+ghost use Rattle.std.specs.Prelude.{◌≡◌, map};
 ghost use Rattle.lexer.specs.Cursor.{Eats, rest};
 ghost use Rattle.lexer.specs.Psql.{before_pipe, command, command_len, fold, found, meaning, opened_options, psql_kind, psql_len, row, spelt, what_follows};
 ghost use Rattle.lexer.specs.PsqlArg.{arguments};
 ghost use Rattle.lexer.specs.declared.psql_arg.ArgState.TheVariants.{Outside};
 
 use crate::class::{CommandLetter, LineBlank};
-use crate::cursor::{Cursor, byte_at};
+use crate::cursor::Cursor;
+use crate::piece::Piece;
 use crate::psql_arg::{arguments_end, options_end};
 use crate::token::TokenKind;
 use text::Text;
@@ -55,7 +56,12 @@ impl<'a, T: Text> Cursor<'a, T> {
     {
         let place = self.place();
         self.eat_while(&CommandLetter);
-        let command = command_of(self.text(), place, self.place() - place);
+        let word = Piece {
+            text: self.text(),
+            place,
+            len: self.place() - place,
+        };
+        let command = command_of(&word);
         self.eat_before_pipe(command);
         self.eat_what_follows(command);
         TokenKind::PsqlCommand {
@@ -180,46 +186,33 @@ const WORDS: [(&[u8], LetterCase, Command); 32] = [
     (b"copy", LetterCase::Any, READS_LINE),
 ];
 
-/// What the word of so many bytes from the place on does.
-fn command_of<T: Text>(text: &T, place: u32, len: u32) -> Command
-    requires { len ≤ length (T.bytes text.now) - place }
-    ensures { result ≡ meaning (take len (drop place (T.bytes text.now))) }
+/// What a word does.
+fn command_of<T: Text>(word: &T) -> Command
+    ensures { result ≡ meaning (T.bytes word.now) }
 {
-    by_table(text, place, len, &WORDS)
+    by_table(word, &WORDS)
 }
 
 /// What it does by a table of words.
-fn by_table<T: Text>(
-    text: &T,
-    place: u32,
-    len: u32,
-    words: &[(&[u8], LetterCase, Command)],
-) -> Command
-    requires { len ≤ length (T.bytes text.now) - place }
-    ensures { result ≡ found (map row words.now) (take len (drop place (T.bytes text.now))) }
+fn by_table<T: Text>(word: &T, words: &[(&[u8], LetterCase, Command)]) -> Command
+    ensures { result ≡ found (map row words.now) (T.bytes word.now) }
 {
-    for (word, case, command) in words {
-        if is_word(text, place, len, *case, word) {
+    for (letters, case, command) in words {
+        if is_word(word, letters, *case) {
             return *command;
         }
     }
     NOTHING
 }
 
-/// Whether these bytes are the word.
-fn is_word<T: Text>(text: &T, place: u32, len: u32, case: LetterCase, word: &[u8]) -> bool
-    requires { len ≤ length (T.bytes text.now) - place }
-    ensures { result ≡ spelt (fold case) word.now (take len (drop place (T.bytes text.now))) }
+/// Whether a text is a word of these letters.
+fn is_word<T: Text>(text: &T, letters: &[u8], case: LetterCase) -> bool
+    ensures { result ≡ spelt (fold case) letters.now (T.bytes text.now) }
 {
-    if word.len() != len as usize {
-        return false;
-    }
-    for i in 0..len {
-        if folded(byte_at(text, place + i), case) != word[i as usize] {
-            return false;
-        }
-    }
-    true
+    letters.len() == text.len() as usize
+        && (0..text.len()).zip(letters).all(|(place, letter)| {
+            matches!(text.byte(place), Some(byte) if *letter == folded(byte, case))
+        })
 }
 
 /// The byte, as a small letter where capital and small letters are alike.

@@ -1,9 +1,8 @@
 //! The arguments of psql commands: quotes, escapes, and where the arguments end.
 
-ghost use Rattle.std.specs.Prelude.{◌≡◌, ◌+◌, ◌-◌, true, cond, drop, None};
-ghost use Rattle.lexer.specs.Class.{hexadecimal, line_blank};
-ghost use Rattle.lexer.specs.Cursor.{run};
-ghost use Rattle.lexer.specs.PsqlArg.{after, after_escape, after_outside, after_quoted, arguments, hex_value, is_parenthesis, last_after, last_quoted, octal, options, outside, separates, stops};
+ghost use Rattle.std.specs.Prelude.{◌≡◌, ◌+◌, true, if◌then◌else◌, drop, None};
+ghost use Rattle.lexer.specs.Class.{hexadecimal};
+ghost use Rattle.lexer.specs.PsqlArg.{after, after_escape, after_outside, after_quoted, arguments, hex_value, is_parenthesis, last_after, last_quoted, octal, options, outside, separates, stops, with_digit};
 
 use crate::class::{Class, DigitClass, HexDigit, LineBlank};
 use crate::cursor::run_end;
@@ -86,9 +85,10 @@ impl ArgState {
         }
     }
 
-    /// The last character of the argument's value after one more byte, where it was `last`. While digits
-    /// of an escape are read it is the character that they stand for so far. `\n` and its kind stand for control characters;
-    /// the letter serves as well, since all that is asked of the last character is whether it is a parenthesis.
+    /// The last character of the argument's value after one more byte, where it was `last`. While
+    /// digits of an escape are read it is the character that they stand for so far. `\n` and its
+    /// kind stand for control characters; the letter serves as well, since all that is asked of the
+    /// last character is whether it is a parenthesis.
     fn last_after(self, last: Option<u8>, byte: u8) -> Option<u8>
         ensures { result ≡ last_after self last byte }
     {
@@ -99,13 +99,11 @@ impl ArgState {
             ArgState::Escape if is_octal_digit(byte) => Some(byte - b'0'),
             ArgState::Escape => Some(byte),
             ArgState::OneOctalDigit | ArgState::TwoOctalDigits if is_octal_digit(byte) => {
-                let so_far = last?;
-                Some(so_far.wrapping_mul(8).wrapping_add(byte - b'0'))
+                with_digit(last, 8, byte - b'0')
             }
             ArgState::HexMark if HexDigit::has_digit(byte) => Some(hex_value(byte)),
             ArgState::OneHexDigit if HexDigit::has_digit(byte) => {
-                let so_far = last?;
-                Some(so_far.wrapping_mul(16).wrapping_add(hex_value(byte)))
+                with_digit(last, 16, hex_value(byte))
             }
             _ => last_quoted(last, byte),
         }
@@ -135,7 +133,8 @@ fn after_quoted(byte: u8) -> ArgState
     }
 }
 
-/// After that backslash octal digits, or an `x` and hexadecimal digits, stand for a character; any other for itself.
+/// After that backslash octal digits, or an `x` and hexadecimal digits, stand for a character; any
+/// other for itself.
 fn after_escape(byte: u8) -> ArgState
     ensures { result ≡ after_escape byte }
 {
@@ -148,7 +147,7 @@ fn after_escape(byte: u8) -> ArgState
 
 /// The escape goes on with one more digit, or has ended before the byte.
 fn after_digit(is_digit: bool, more: ArgState, byte: u8) -> ArgState
-    ensures { result ≡ cond is_digit more (after_quoted byte) }
+    ensures { result ≡ (if is_digit then more else after_quoted byte) }
 {
     if is_digit { more } else { after_quoted(byte) }
 }
@@ -161,6 +160,13 @@ fn last_quoted(last: Option<u8>, byte: u8) -> Option<u8>
         b'\'' | b'\\' => last,
         _ => Some(byte),
     }
+}
+
+/// The character that an escape stands for so far, with one more digit in a base.
+fn with_digit(last: Option<u8>, base: u8, digit: u8) -> Option<u8>
+    ensures { result ≡ with_digit last base digit }
+{
+    last.map(|so_far| so_far.wrapping_mul(base).wrapping_add(digit))
 }
 
 /// Whether the last character is a closing parenthesis.
@@ -195,6 +201,7 @@ pub(crate) fn arguments_end<T: Text>(text: &T, place: u32) -> u32
 {
     let mut state = ArgState::Outside;
     let mut end = place;
+    // The place is the answer, and the state goes on beside it.
     while let Some(byte) = text.byte(end) {
         if state.stops(byte) {
             break;
@@ -205,12 +212,14 @@ pub(crate) fn arguments_end<T: Text>(text: &T, place: u32) -> u32
     end
 }
 
-/// Where the options of `\g (` end that begin at the place: with the blanks after the first argument whose value ends with
-/// a parenthesis, or with the arguments.
+/// Where the options of `\g (` end that begin at the place: with the blanks after the first
+/// argument whose value ends with a parenthesis, or with the arguments.
+#[tactic(auto, using(crate::proofs::Turns::turns))]
 pub(crate) fn options_end<T: Text>(text: &T, place: u32) -> u32
     ensures { result ≡ place + options ArgState.Outside None (drop place (T.bytes text.now)) }
 {
     let mut end = place;
+    // Arguments outside, the bytes of one inside; the place is the answer of both.
     'options: loop {
         let mut state = ArgState::Outside;
         let mut last = None;

@@ -1,11 +1,11 @@
 //! Quoted strings and names, with and without a prefix.
 
-ghost use Rattle.std.specs.Prelude.{◌≡◌, ◌+◌, ◌<◌, false, drop};
+ghost use Rattle.std.specs.Prelude.{◌≡◌, ◌+◌, false, drop};
 ghost use Rattle.lexer.specs.Byte.{byte};
 ghost use Rattle.lexer.specs.Cursor.{Eats, Moved, peek, rest};
 ghost use Rattle.lexer.specs.Quoted.{has_escapes, prefix_literal, quoted, quoted_closed};
 
-use crate::cursor::{Cursor, Reach, byte_at};
+use crate::cursor::{Cursor, Reach};
 use crate::token::{LiteralKind, TokenKind};
 use text::Text;
 
@@ -49,8 +49,10 @@ impl<'a, T: Text> Cursor<'a, T> {
     /// Goes on after the prefix: the quote, and the string that it opens.
     pub(crate) fn prefixed_string(&mut self, prefix: Prefix) -> TokenKind
         requires { peek 0 (rest self.old) ≡ byte "'" }
-        ensures kind { result ≡ TokenKind.Literal (prefix_literal prefix (quoted_closed (byte "'") (has_escapes prefix) (drop 1 (rest self.old)))) }
-        ensures moved { Moved self.old self.new (1 + quoted (byte "'") (has_escapes prefix) (drop 1 (rest self.old))) }
+        ensures kind { result ≡ TokenKind.Literal (prefix_literal prefix
+            (quoted_closed (byte "'") (has_escapes prefix) (drop 1 (rest self.old)))) }
+        ensures moved { Moved self.old self.new
+            (1 + quoted (byte "'") (has_escapes prefix) (drop 1 (rest self.old))) }
     {
         self.bump();
         let terminated = self.single_quoted_string(prefix.backslash_escapes());
@@ -59,8 +61,33 @@ impl<'a, T: Text> Cursor<'a, T> {
         }
     }
 
+    /// Goes on after the `'` of a string without a prefix.
+    pub(crate) fn plain_string(&mut self) -> TokenKind
+        ensures kind { result
+            ≡ TokenKind.Literal (LiteralKind.Str (quoted_closed (byte "'") false (rest self.old))) }
+        ensures moved { Eats (quoted (byte "'") false) self.old self.new }
+    {
+        let terminated = self.single_quoted_string(false);
+        TokenKind::Literal {
+            kind: LiteralKind::Str { terminated },
+        }
+    }
+
+    /// Goes on after the `"` of a name.
+    pub(crate) fn quoted_ident(&mut self, uescape: bool) -> TokenKind
+        ensures kind { result
+            ≡ TokenKind.QuotedIdent (quoted_closed (byte "\"") false (rest self.old)) uescape }
+        ensures moved { Eats (quoted (byte "\"") false) self.old self.new }
+    {
+        let terminated = self.double_quoted_string();
+        TokenKind::QuotedIdent {
+            terminated,
+            uescape,
+        }
+    }
+
     /// Goes on after a `'`. Says whether the string is terminated.
-    pub(crate) fn single_quoted_string(&mut self, backslash_escapes: bool) -> bool
+    fn single_quoted_string(&mut self, backslash_escapes: bool) -> bool
         ensures closed { result ≡ quoted_closed (byte "'") backslash_escapes (rest self.old) }
         ensures moved { Eats (quoted (byte "'") backslash_escapes) self.old self.new }
     {
@@ -68,7 +95,7 @@ impl<'a, T: Text> Cursor<'a, T> {
     }
 
     /// Goes on after a `"`. Says whether the name is terminated.
-    pub(crate) fn double_quoted_string(&mut self) -> bool
+    fn double_quoted_string(&mut self) -> bool
         ensures closed { result ≡ quoted_closed (byte "\"") false (rest self.old) }
         ensures moved { Eats (quoted (byte "\"") false) self.old self.new }
     {
@@ -78,16 +105,17 @@ impl<'a, T: Text> Cursor<'a, T> {
 
 /// Where the body ends whose opening quote ends at the place: after its closing quote, or with the text. And whether it
 /// is closed. A doubled quote is part of the body, and where there are escapes a backslash takes the next character.
+#[tactic(auto, using(crate::proofs::Quotes::quote_turns))]
 fn quoted_end<T: Text>(text: &T, place: u32, quote: u8, escapes: bool) -> Reach
-    requires { 0 < quote }
     ensures end { result.end ≡ place + quoted quote escapes (drop place (T.bytes text.now)) }
     ensures closed { result.closed ≡ quoted_closed quote escapes (drop place (T.bytes text.now)) }
 {
     let mut end = place;
+    // A turn takes one byte or two, and the place is the answer.
     while let Some(byte) = text.byte(end) {
         end += 1;
         if byte == quote {
-            if byte_at(text, end) != quote {
+            if text.byte(end) != Some(quote) {
                 return Reach { end, closed: true };
             }
             end += 1;

@@ -6,7 +6,8 @@ ghost use Rattle.std.specs.Prelude.{◌≡◌};
 use crate::quoted::Prefix;
 use crate::token::TokenKind;
 
-/// What starts with a token's first character, as far as it and the next two tell.
+/// What starts with a token's first character, as far as it and the next two tell. Nothing is read by it:
+/// the proofs of what is read go by its cases.
 #[derive(Clone, Copy)]
 pub(crate) enum Start {
     /// Whitespace.

@@ -3,6 +3,8 @@ use Rattle.std.proofs.Common.{◌≡◌, ℕ, zero, suc, ◌+◌, ◌-◌, ◌<�
 use Rattle.std.specs.List.{slice_get}
 use Rattle.std.proofs.lemmas.Bool.{eqb-true, and_parts}
 use Rattle.lexer.proofs.Cuts.{reads_cut}
+use Rattle.lexer.proofs.LoneSemicolon.{lone_place}
+use Rattle.lexer.proofs.Readings.{token_end}
 use Rattle.lexer.specs.Cut.{cut, lengths}
 use Rattle.lexer.specs.Laws.{border}
 use Rattle.lexer.specs.declared.token.Token.{Token}
@@ -16,7 +18,7 @@ use Rattle.statement.specs.Ends.{solid, unterminated, next_state, own_end, role_
 use Rattle.statement.specs.Statements.{statements_on}
 use Rattle.statement.specs.Laws.{tokens_in}
 use Rattle.statement.specs.EndLaws.{lone_semicolon, statements_of_text, EndStands, EndsStand}
-use Rattle.statement.proofs.Semicolons.{OfSemicolon, semicolon_kind, lone_place}
+use Rattle.statement.proofs.Semicolons.{OfSemicolon, semicolon_kind}
 use Rattle.statement.proofs.Turns.{beyond}
 
 -- an end with a `;` as its cause stands after one that is a token of its own
@@ -112,15 +114,6 @@ none_inside [] (suc m) (suc i) h g = omega arith
 none_inside (t ∷ ts) zero i h g = omega arith
 none_inside (t ∷ ts) (suc m) zero h g = omega arith
 none_inside (t ∷ ts) (suc m) (suc i) h g = none_inside ts m i (omega arith) (omega arith)
-
--- a token ends its length after those before it
-token_end : (ts : List Token) (i : ℕ) (t : Token) → slice_get ts i ≡ Some t → lengths (take (suc i) ts) ≡ lengths (take i ts) + t.len
-token_end [] i t e = let z : ◌≡◌ {A = ℕ} 0 1 = cc in absurd (omega arith)
-token_end (u ∷ ts) zero t e =
-    let same : u ≡ t = cc in
-    let len = ap (λ x. x.len) same in
-    omega arith
-token_end (u ∷ ts) (suc i) t e = let more = token_end ts i t e in omega arith
 
 -- the byte before a border is a `;` if the token there is one
 last_byte : (bs : List ℕ) (m : ℕ) → 0 < m → slice_get (cut bs) (m - 1) ≡ Some lone_semicolon → slice_get bs (border bs m - 1) ≡ Some 59

@@ -5,8 +5,10 @@ use Rattle.lexer.specs.Quoted.{quoted, quoted_closed}
 abbrev pub invariant-loop-byte : goal.invariant-loop-byte
 invariant-loop-byte g l =
     let xs = g.T.Text.bytes l.text in
-    (l.end + quoted l.quote l.escapes (drop l.end xs) ≡ l.place + quoted l.quote l.escapes (drop l.place xs))
-    × (quoted_closed l.quote l.escapes (drop l.end xs) ≡ quoted_closed l.quote l.escapes (drop l.place xs))
+    record {
+      end : l.end + quoted l.quote l.escapes (drop l.end xs) ≡ l.place + quoted l.quote l.escapes (drop l.place xs);
+      closed : quoted_closed l.quote l.escapes (drop l.end xs) ≡ quoted_closed l.quote l.escapes (drop l.place xs);
+    }
 
 abbrev pub decreases-loop-byte : goal.decreases-loop-byte
 decreases-loop-byte g l = length (g.T.Text.bytes l.text) - l.end

@@ -1,6 +1,6 @@
-use Rattle.std.proofs.Common.{◌≡◌, ℕ, ◌+◌, true, false, eqb, drop, sym, ap, ◌∙◌, subst, arith, eqb-true}
+use Rattle.std.proofs.Common.{◌≡◌, ℕ, ◌+◌, true, false, drop, sym, ap, ◌∙◌, subst, arith}
 use Rattle.lexer.proofs.Moves.{moved_by, moved_rest, moved_then, moved_trans, next_one}
-use Rattle.lexer.proofs.Starts.{fits_as}
+use Rattle.lexer.proofs.Starts.{begun_as}
 use Rattle.lexer.proofs.cursor.Cursor.finish.Goals as goal
 use Rattle.lexer.specs.Class.{all_but}
 use Rattle.lexer.specs.Comment.{comment, comment_closed}
@@ -11,12 +11,11 @@ use Rattle.lexer.specs.declared.start.Start.TheVariants.{Block, Dollar, Line, Pr
 use Rattle.lexer.specs.declared.token.LiteralKind.TheVariants.{UnicodeEscStr}
 use Rattle.lexer.specs.declared.token.TokenKind.TheVariants.{BlockComment, Literal, QuotedIdent}
 use Rattle.std.proofs.lemmas.List.{drop-drop, get_or-drop}
-use Rattle.std.proofs.lemmas.Bool.{and_parts}
 
 pub prefixed_string-requires : goal.prefixed_string-requires
 prefixed_string-requires g c =
     let xs = rest c.args.self.now in
-    eqb-true (peek 0 xs) 39 (fits_as c.args.first_char (peek 0 xs) (peek 1 xs) (Prefixed c.in-Prefixed.prefix) (sym c.in-Prefixed.is ∙ c.requires.begun))
+    (begun_as c.args.first_char (peek 0 xs) (peek 1 xs) (Prefixed c.in-Prefixed.prefix) (sym c.in-Prefixed.is ∙ c.requires.begun)).1
 
 -- the second byte that follows is the first after a move by one
 second : {c d : Spot} → Moved c d 1 → peek 0 (rest d) ≡ peek 1 (rest c)
@@ -26,22 +25,22 @@ pub prefixed_string-requires-in-UnicodeStr : goal.prefixed_string-requires-in-Un
 prefixed_string-requires-in-UnicodeStr g c =
     let bytes = g.T.Text.bytes in
     let xs = rest c.args.self.now in
-    let asked = fits_as c.args.first_char (peek 0 xs) (peek 1 xs) UnicodeStr (sym c.in-UnicodeStr.is ∙ c.requires.begun) in
-    let one = moved_by (next_one xs 37 (eqb-true (peek 0 xs) 38 (and_parts (eqb (peek 0 xs) 38) (eqb (peek 1 xs) 39) asked).0)) c.bump-in-UnicodeStr.ensures.moved in
-    second one ∙ eqb-true (peek 1 xs) 39 (and_parts (eqb (peek 0 xs) 38) (eqb (peek 1 xs) 39) asked).1
+    let asked = begun_as c.args.first_char (peek 0 xs) (peek 1 xs) UnicodeStr (sym c.in-UnicodeStr.is ∙ c.requires.begun) in
+    let one = moved_by (next_one xs 37 asked.1) c.bump-in-UnicodeStr.ensures.moved in
+    second one ∙ asked.2
 
 pub dollar-requires : goal.dollar-requires
 dollar-requires g c =
     let xs = rest c.args.self.now in
-    let sign = eqb-true c.args.first_char 36 (fits_as c.args.first_char (peek 0 xs) (peek 1 xs) Dollar (sym c.in-Dollar.is ∙ c.requires.begun)) in
+    let sign = begun_as c.args.first_char (peek 0 xs) (peek 1 xs) Dollar (sym c.in-Dollar.is ∙ c.requires.begun) in
     record { sign = subst (λ (b : ℕ). Begun b c.args.self.now) sign c.requires.first }
 
 pub returns-in-Line : goal.returns-in-Line
 returns-in-Line g c =
     let bytes = g.T.Text.bytes in
     let xs = rest c.args.self.now in
-    let asked = fits_as c.args.first_char (peek 0 xs) (peek 1 xs) Line (sym c.in-Line.is ∙ c.requires.begun) in
-    let one = moved_by (next_one xs 44 (eqb-true (peek 0 xs) 45 asked)) c.bump.ensures.moved in
+    let asked = begun_as c.args.first_char (peek 0 xs) (peek 1 xs) Line (sym c.in-Line.is ∙ c.requires.begun) in
+    let one = moved_by (next_one xs 44 asked.1) c.bump.ensures.moved in
     record {
       kind = c.line_comment.ensures.kind ∙ ap (λ s. kind_of s c.args.first_char xs) (sym c.in-Line.is);
       moved = moved_by (ap (λ s. rest_len s c.args.first_char xs) (sym c.in-Line.is)) (moved_then (run (all_but 10 13)) one c.line_comment.ensures.moved);
@@ -51,8 +50,8 @@ pub returns-in-Block : goal.returns-in-Block
 returns-in-Block g c =
     let bytes = g.T.Text.bytes in
     let xs = rest c.args.self.now in
-    let asked = fits_as c.args.first_char (peek 0 xs) (peek 1 xs) Block (sym c.in-Block.is ∙ c.requires.begun) in
-    let one = moved_by (next_one xs 41 (eqb-true (peek 0 xs) 42 asked)) c.bump-in-Block.ensures.moved in
+    let asked = begun_as c.args.first_char (peek 0 xs) (peek 1 xs) Block (sym c.in-Block.is ∙ c.requires.begun) in
+    let one = moved_by (next_one xs 41 asked.1) c.bump-in-Block.ensures.moved in
     record {
       kind = c.block_comment.ensures.kind ∙ ap (λ l. BlockComment (comment_closed 1 l)) (moved_rest one) ∙ ap (λ s. kind_of s c.args.first_char xs) (sym c.in-Block.is);
       moved = moved_by (ap (λ s. rest_len s c.args.first_char xs) (sym c.in-Block.is)) (moved_then (comment 1) one c.block_comment.ensures.moved);
@@ -62,8 +61,8 @@ pub returns-in-UnicodeStr : goal.returns-in-UnicodeStr
 returns-in-UnicodeStr g c =
     let bytes = g.T.Text.bytes in
     let xs = rest c.args.self.now in
-    let asked = fits_as c.args.first_char (peek 0 xs) (peek 1 xs) UnicodeStr (sym c.in-UnicodeStr.is ∙ c.requires.begun) in
-    let one = moved_by (next_one xs 37 (eqb-true (peek 0 xs) 38 (and_parts (eqb (peek 0 xs) 38) (eqb (peek 1 xs) 39) asked).0)) c.bump-in-UnicodeStr.ensures.moved in
+    let asked = begun_as c.args.first_char (peek 0 xs) (peek 1 xs) UnicodeStr (sym c.in-UnicodeStr.is ∙ c.requires.begun) in
+    let one = moved_by (next_one xs 37 asked.1) c.bump-in-UnicodeStr.ensures.moved in
     let body = ap (drop 1) (moved_rest one) ∙ drop-drop 1 1 xs in
     let len : 1 + (1 + quoted 39 false (drop 1 (drop 1 xs))) ≡ 2 + quoted 39 false (drop 2 xs) = omega (arith, ap (quoted 39 false) (drop-drop 1 1 xs)) in
     record {
@@ -75,20 +74,20 @@ pub returns-in-UnicodeIdent : goal.returns-in-UnicodeIdent
 returns-in-UnicodeIdent g c =
     let bytes = g.T.Text.bytes in
     let xs = rest c.args.self.now in
-    let asked = fits_as c.args.first_char (peek 0 xs) (peek 1 xs) UnicodeIdent (sym c.in-UnicodeIdent.is ∙ c.requires.begun) in
-    let one = moved_by (next_one xs 37 (eqb-true (peek 0 xs) 38 (and_parts (eqb (peek 0 xs) 38) (eqb (peek 1 xs) 34) asked).0)) c.bump-in-UnicodeIdent.ensures.moved in
-    let quote = second one ∙ eqb-true (peek 1 xs) 34 (and_parts (eqb (peek 0 xs) 38) (eqb (peek 1 xs) 34) asked).1 in
+    let asked = begun_as c.args.first_char (peek 0 xs) (peek 1 xs) UnicodeIdent (sym c.in-UnicodeIdent.is ∙ c.requires.begun) in
+    let one = moved_by (next_one xs 37 asked.1) c.bump-in-UnicodeIdent.ensures.moved in
+    let quote = second one ∙ asked.2 in
     let two = moved_trans one (moved_by (next_one _ 33 quote) c.bump-in-UnicodeIdent-2.ensures.moved) in
     record {
-      kind = ap (λ b. QuotedIdent b true) (c.double_quoted_string-terminated.ensures.closed ∙ ap (quoted_closed 34 false) (moved_rest two)) ∙ ap (λ s. kind_of s c.args.first_char xs) (sym c.in-UnicodeIdent.is);
-      moved = moved_by (ap (λ s. rest_len s c.args.first_char xs) (sym c.in-UnicodeIdent.is)) (moved_then (quoted 34 false) two c.double_quoted_string-terminated.ensures.moved);
+      kind = c.quoted_ident.ensures.kind ∙ ap (λ l. QuotedIdent (quoted_closed 34 false l) true) (moved_rest two) ∙ ap (λ s. kind_of s c.args.first_char xs) (sym c.in-UnicodeIdent.is);
+      moved = moved_by (ap (λ s. rest_len s c.args.first_char xs) (sym c.in-UnicodeIdent.is)) (moved_then (quoted 34 false) two c.quoted_ident.ensures.moved);
     }
 
 pub returns-in-TwoDots : goal.returns-in-TwoDots
 returns-in-TwoDots g c =
     let xs = rest c.args.self.now in
-    let asked = fits_as c.args.first_char (peek 0 xs) (peek 1 xs) TwoDots (sym c.in-TwoDots.is ∙ c.requires.begun) in
+    let asked = begun_as c.args.first_char (peek 0 xs) (peek 1 xs) TwoDots (sym c.in-TwoDots.is ∙ c.requires.begun) in
     record {
       kind = ap (λ s. kind_of s c.args.first_char xs) (sym c.in-TwoDots.is);
-      moved = moved_by (next_one xs 45 (eqb-true (peek 0 xs) 46 asked) ∙ ap (λ s. rest_len s c.args.first_char xs) (sym c.in-TwoDots.is)) c.bump-in-TwoDots.ensures.moved;
+      moved = moved_by (next_one xs 45 asked.1 ∙ ap (λ s. rest_len s c.args.first_char xs) (sym c.in-TwoDots.is)) c.bump-in-TwoDots.ensures.moved;
     }
