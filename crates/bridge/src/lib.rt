@@ -12,7 +12,8 @@ use std::alloc::Global;
 /// Without memory for the listing it leaves `out` as it is and answers the largest number.
 #[unsafe(no_mangle)]
 pub extern "C" fn cushallen_listing(heap: Global, input: &[u8], out: &mut [u8]) -> usize
-    ensures { ((result ≡ no_memory) × (out.new ≡ out.old)) ⊎ Fills input.now out.old out.new result }
+    ensures { ((result ≡ no_memory) × (out.new ≡ out.old))
+        ⊎ Fills input.now out.old out.new result }
 {
     match list_input(heap, input) {
         Ok(listing) => {
@@ -20,6 +21,7 @@ pub extern "C" fn cushallen_listing(heap: Global, input: &[u8], out: &mut [u8]) 
             fill_front(text.as_bytes(), out);
             text.len()
         }
+        // Callers in C are told by a number.
         Err(_) => usize::MAX,
     }
 }

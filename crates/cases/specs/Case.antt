@@ -11,7 +11,8 @@ use Rattle.statement.specs.declared.Statement.{Statement}
 abbrev pub ends_on : ℕ → List Token → List Statement → List (ℕ × Cause)
 ends_on place ts [] = []
 ends_on place ts (s ∷ ss) =
-    (place + lengths (take s.tokens ts), s.cause) ∷ ends_on (place + lengths (take s.tokens ts)) (drop s.tokens ts) ss
+    let end = place + lengths (take s.tokens ts) in
+    (end, s.cause) ∷ ends_on end (drop s.tokens ts) ss
 
 abbrev pub ends_of : List ℕ → List (ℕ × Cause)
 ends_of bs = ends_on 0 (cut bs) (statements first_state (cut bs))

@@ -22,10 +22,14 @@ alone text kind len cause = case text (token kind len ∷ []) ((len, cause) ∷ 
 abbrev pub worked : List Case
 worked =
     case [] [] []
-    ∷ case (239 ∷ 187 ∷ 191 ∷ 32 ∷ []) (token Whitespace 3 ∷ token Whitespace 1 ∷ []) ((4, Last) ∷ [])
-    ∷ case (codes "1e+") (token (Literal (Numeric (Some 1) 2)) 2 ∷ token Plus 1 ∷ []) ((3, Last) ∷ [])
+    ∷ case (239 ∷ 187 ∷ 191 ∷ 32 ∷ [])
+    (token Whitespace 3 ∷ token Whitespace 1 ∷ []) ((4, Last) ∷ [])
+    ∷ case (codes "1e+")
+    (token (Literal (Numeric (Some 1) 2)) 2 ∷ token Plus 1 ∷ []) ((3, Last) ∷ [])
     ∷ alone (codes "0b29") (Literal (Int Binary false 4)) 4 Last
-    ∷ case (codes "1..10") (token (Literal (Int Decimal false 1)) 1 ∷ token DotDot 2 ∷ token (Literal (Int Decimal false 2)) 2 ∷ []) ((5, Last) ∷ [])
+    ∷ case (codes "1..10")
+    (token (Literal (Int Decimal false 1)) 1 ∷ token DotDot 2
+    ∷ token (Literal (Int Decimal false 2)) 2 ∷ []) ((5, Last) ∷ [])
     ∷ alone (codes "/*/") (BlockComment false) 3 Unterminated
     ∷ alone (codes "/*/**/*/") (BlockComment true) 8 Last
     ∷ alone (codes "$a$x$ab$y$a$") (Literal (DollarQuotedString true)) 12 Last
@@ -34,6 +38,9 @@ worked =
     ∷ alone (codes "E'\\''") (Literal (EscStr true)) 5 Last
     ∷ alone (codes "'\\''") (Literal (Str false)) 4 Unterminated
     ∷ alone (codes "\\g (a) |x\\d") (PsqlCommand true) 11 Command
-    ∷ case (codes "a(;)b;c") (token Ident 1 ∷ token OpenParen 1 ∷ token Semi 1 ∷ token CloseParen 1 ∷ token Ident 1 ∷ token Semi 1 ∷ token Ident 1 ∷ []) ((6, Semicolon) ∷ (7, Last) ∷ [])
-    ∷ case (codes "a\\;b;") (token Ident 1 ∷ token Semi 2 ∷ token Ident 1 ∷ token Semi 1 ∷ []) ((5, Semicolon) ∷ [])
+    ∷ case (codes "a(;)b;c")
+    (token Ident 1 ∷ token OpenParen 1 ∷ token Semi 1 ∷ token CloseParen 1
+    ∷ token Ident 1 ∷ token Semi 1 ∷ token Ident 1 ∷ []) ((6, Semicolon) ∷ (7, Last) ∷ [])
+    ∷ case (codes "a\\;b;")
+    (token Ident 1 ∷ token Semi 2 ∷ token Ident 1 ∷ token Semi 1 ∷ []) ((5, Semicolon) ∷ [])
     ∷ []

@@ -2,20 +2,22 @@
 //! the two part.
 
 use listing::list_input;
+use std::alloc::Global;
+use std::process::Abort;
 use std::test::Fail;
 
-/// The second half is of escapes and two single quotes in the options of `\g (`.
+/// Each input is listed by its lines.
+fn list(rt: &impl Abort, heap: Global, cases: &[(&[u8], &str)]) -> Result<(), Fail> {
+    for (input, lines) in cases {
+        let listing = list_input(heap, input)?;
+        assert_eq!(rt; listing.text(), *lines);
+    }
+    Ok(())
+}
+
 #[test]
 fn run_cases(rt: HostRuntime) -> Result<(), Fail> {
-    let one = "token 0 16 PsqlCommand 1\n\
-         end 0 16 2 1 1\n\
-         total 16 1 1\n";
-    let two = "token 0 13 PsqlCommand 1\n\
-         end 0 13 2 1 1\n\
-         token 13 2 PsqlCommand 0\n\
-         end 13 2 3 1 1\n\
-         total 15 2 2\n";
-    let cases: [(&[u8], &str); 13] = [
+    let cases: [(&[u8], &str); 7] = [
         (
             b"\\g a\\d",
             "token 0 4 PsqlCommand 1\n\
@@ -86,6 +88,22 @@ fn run_cases(rt: HostRuntime) -> Result<(), Fail> {
          end 2 3 4 1 0\n\
          total 5 3 2\n",
         ),
+    ];
+    list(&rt, rt.alloc(), &cases)
+}
+
+/// Escapes and two single quotes in the options of `\g (`.
+#[test]
+fn options_by_the_page(rt: HostRuntime) -> Result<(), Fail> {
+    let one = "token 0 16 PsqlCommand 1\n\
+         end 0 16 2 1 1\n\
+         total 16 1 1\n";
+    let two = "token 0 13 PsqlCommand 1\n\
+         end 0 13 2 1 1\n\
+         token 13 2 PsqlCommand 0\n\
+         end 13 2 3 1 1\n\
+         total 15 2 2\n";
+    let cases: [(&[u8], &str); 6] = [
         (b"\\g (a'\\051' |x\\d", one),
         (
             b"\\g (a'\\51' |x\\d",
@@ -98,9 +116,5 @@ fn run_cases(rt: HostRuntime) -> Result<(), Fail> {
         (b"\\g (a')''' |x\\d", two),
         (b"\\g (a)'''' |x\\d", two),
     ];
-    for (input, lines) in cases {
-        let listing = list_input(rt.alloc(), input)?;
-        assert_eq!(rt; listing.text(), lines);
-    }
-    Ok(())
+    list(&rt, rt.alloc(), &cases)
 }

@@ -60,9 +60,6 @@ pub record Walking (bs : List ℕ) (size : ℕ) (w : Walked) (out : List ℕ) : 
   pub walk : w ≡ walked size at_front tokens
   pub lines : out ≡ lines_on size at_front tokens
 
-pub walking_none : (bs : List ℕ) (size : ℕ) → Walking bs size at_front []
-walking_none bs size = record { tokens = []; reads = tt; none_empty = tt; walk = refl; lines = refl }
-
 module _ (bs : List ℕ) (size : ℕ) (w : Walked) (out : List ℕ) (so : Walking bs size w out) where
   passed : w.place ≡ lengths so.tokens
   passed = omega (arith, ap (λ u. u.place) so.walk, place-walked size at_front so.tokens)

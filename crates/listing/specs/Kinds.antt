@@ -15,7 +15,8 @@ flag set = number (if set then 1 else 0)
 
 -- the name of a literal's kind and its fields, in the order of their declaration
 abbrev pub literal_bytes : LiteralKind → List ℕ
-literal_bytes (Int base empty junk) = codes "Int" ++ number (base_number base) ++ flag empty ++ number junk
+literal_bytes (Int base empty junk) =
+    codes "Int" ++ number (base_number base) ++ flag empty ++ number junk
 literal_bytes (Numeric (Some start) junk) = codes "Numeric" ++ number start ++ number junk
 literal_bytes (Numeric None junk) = codes "Numeric" ++ codes " -" ++ number junk
 literal_bytes (Str terminated) = codes "Str" ++ flag terminated

@@ -21,7 +21,8 @@ token_bytes l =
 -- end START LENGTH CAUSE TOKENS SOLID
 abbrev pub end_bytes : EndLine → List ℕ
 end_bytes l =
-    line (codes "end" ∷ decimal l.start ∷ decimal l.len ∷ decimal (cause_number l.cause) ∷ decimal l.tokens ∷ decimal l.solid ∷ [])
+    line (codes "end" ∷ decimal l.start ∷ decimal l.len ∷ decimal (cause_number l.cause)
+    ∷ decimal l.tokens ∷ decimal l.solid ∷ [])
 
 -- total BYTES TOKENS ENDS
 abbrev pub total_bytes : TotalLine → List ℕ

@@ -17,22 +17,31 @@ use Rattle.listing.specs.Lines.{token_bytes, end_bytes, total_bytes, refused_byt
 -- the lines of tokens that lie one after another from a place on
 abbrev pub token_lines : ℕ → List Token → List ℕ
 token_lines place [] = []
-token_lines place (t ∷ ts) = token_bytes (record { place = place; token = t }) ++ token_lines (place + t.len) ts
+token_lines place (t ∷ ts) =
+    token_bytes (record { place = place; token = t }) ++ token_lines (place + t.len) ts
 
 -- the lines of statements from a place on: those of a statement's tokens, and after them its end's
 abbrev pub statement_lines : ℕ → List Token → List Statement → List ℕ
 statement_lines place ts [] = []
 statement_lines place ts (s ∷ ss) =
     let own = take s.tokens ts in
+    let len = lengths own in
     token_lines place own
-    ++ (end_bytes (record { start = place; len = lengths own; cause = s.cause; tokens = s.tokens; solid = s.solid })
-    ++ statement_lines (place + lengths own) (drop s.tokens ts) ss)
+    ++ (end_bytes (record {
+      start = place;
+      len = len;
+      cause = s.cause;
+      tokens = s.tokens;
+      solid = s.solid;
+    })
+    ++ statement_lines (place + len) (drop s.tokens ts) ss)
 
 -- the lines of a text that has these tokens
 abbrev pub listed : List Token → List ℕ
 listed ts =
     let ss = statements first_state ts in
-    statement_lines 0 ts ss ++ total_bytes (record { bytes = lengths ts; tokens = length ts; ends = length ss })
+    statement_lines 0 ts ss
+    ++ total_bytes (record { bytes = lengths ts; tokens = length ts; ends = length ss })
 
 -- what is written, whichever it is
 abbrev pub text_of : Listing → List ℕ

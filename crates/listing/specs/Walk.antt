@@ -7,8 +7,8 @@ use Rattle.listing.specs.declared.lines.EndLine.{EndLine}
 use Rattle.listing.specs.declared.lines.TotalLine.{TotalLine}
 use Rattle.listing.specs.Lines.{token_bytes, end_bytes}
 
--- Where a walk stands: its place, the tokens and ends passed, the state of the rule of ends, and of the statement that is
--- open its start, its tokens and its solid ones.
+-- Where a walk stands: its place, the tokens and ends passed, the state of the rule of ends, and of the
+-- statement that is open its start, its tokens and its solid ones.
 pub record Walked : Type 0 where
   pub place : ℕ
   pub tokens : ℕ
@@ -20,11 +20,20 @@ pub record Walked : Type 0 where
 
 abbrev pub walked_of : ℕ → ℕ → ℕ → ℕ → ℕ → ℕ → ℕ → Walked
 walked_of place tokens ends rule start passed solid =
-    record { place = place; tokens = tokens; ends = ends; rule = rule; start = start; passed = passed; solid = solid }
+    record {
+      place = place;
+      tokens = tokens;
+      ends = ends;
+      rule = rule;
+      start = start;
+      passed = passed;
+      solid = solid;
+    }
 
 -- before the first token
 abbrev pub at_front : Walked
-at_front = record { place = 0; tokens = 0; ends = 0; rule = first_state; start = 0; passed = 0; solid = 0 }
+at_front =
+    record { place = 0; tokens = 0; ends = 0; rule = first_state; start = 0; passed = 0; solid = 0 }
 
 -- the numbers of a walk keep within the bytes it has passed
 pub record Within (w : Walked) : Type 0 where
@@ -40,12 +49,37 @@ solid_with w t = w.solid + (if solid t then 1 else 0)
 
 -- the line of a statement that ends after a token
 abbrev pub end_line : Walked → Token → Cause → EndLine
-end_line w t cause = record { start = w.start; len = w.place + t.len - w.start; cause = cause; tokens = w.passed + 1; solid = solid_with w t }
+end_line w t cause =
+    record {
+      start = w.start;
+      len = w.place + t.len - w.start;
+      cause = cause;
+      tokens = w.passed + 1;
+      solid = solid_with w t;
+    }
 
 -- past a token, after which a statement ends or goes on
 abbrev pub past : Walked → Token → Option Cause → Walked
-past w t None = record { place = w.place + t.len; tokens = w.tokens + 1; ends = w.ends; rule = next_state w.rule t; start = w.start; passed = w.passed + 1; solid = solid_with w t }
-past w t (Some cause) = record { place = w.place + t.len; tokens = w.tokens + 1; ends = w.ends + 1; rule = next_state w.rule t; start = w.place + t.len; passed = 0; solid = 0 }
+past w t None =
+    record {
+      place = w.place + t.len;
+      tokens = w.tokens + 1;
+      ends = w.ends;
+      rule = next_state w.rule t;
+      start = w.start;
+      passed = w.passed + 1;
+      solid = solid_with w t;
+    }
+past w t (Some cause) =
+    record {
+      place = w.place + t.len;
+      tokens = w.tokens + 1;
+      ends = w.ends + 1;
+      rule = next_state w.rule t;
+      start = w.place + t.len;
+      passed = 0;
+      solid = 0;
+    }
 
 -- the whole text, once all its tokens are passed
 abbrev pub total_line : Walked → TotalLine
@@ -65,4 +99,5 @@ lines_of_end w t None = []
 lines_of_end w t (Some cause) = end_bytes (end_line w t cause)
 
 abbrev pub lines_of_token : ℕ → Walked → Token → List ℕ
-lines_of_token size w t = token_bytes (record { place = w.place; token = t }) ++ lines_of_end w t (end_there size w t)
+lines_of_token size w t =
+    token_bytes (record { place = w.place; token = t }) ++ lines_of_end w t (end_there size w t)

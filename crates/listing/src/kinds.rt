@@ -1,7 +1,7 @@
 //! The kinds of tokens as a line shows them.
 
 ghost use Rattle.listing.specs.Kinds.{kind_bytes, literal_bytes};
-ghost use Rattle.std.specs.Prelude.{Some};
+ghost use Rattle.std.specs.Prelude.{◌≡◌, if◌then◌else◌, Some};
 
 use lexer::token::{LiteralKind, TokenKind};
 use std::fmt;
@@ -19,6 +19,13 @@ struct ShownLiteral {
     kind: LiteralKind,
 }
 
+/// Yes as 1, no as 0.
+fn one_if(flag: bool) -> u8
+    ensures { result ≡ (if flag then 1 else 0) }
+{
+    u8::from(flag)
+}
+
 impl fmt::Display for ShownLiteral {
     ghost output = { λ x. Some (literal_bytes x.kind) };
 
@@ -32,7 +39,7 @@ impl fmt::Display for ShownLiteral {
                 f,
                 "Int {} {} {trailing_junk_start}",
                 base.number(),
-                u8::from(empty_int)
+                one_if(empty_int)
             ),
             LiteralKind::Numeric {
                 empty_exponent_start: Some(start),
@@ -42,25 +49,25 @@ impl fmt::Display for ShownLiteral {
                 empty_exponent_start: None,
                 trailing_junk_start,
             } => write!(f, "Numeric - {trailing_junk_start}"),
-            LiteralKind::Str { terminated } => write!(f, "Str {}", u8::from(terminated)),
+            LiteralKind::Str { terminated } => write!(f, "Str {}", one_if(terminated)),
             LiteralKind::NationalStr { terminated } => write!(
                 f,
                 "NationalStr {}",
-                u8::from(terminated)
+                one_if(terminated)
             ),
-            LiteralKind::ByteStr { terminated } => write!(f, "ByteStr {}", u8::from(terminated)),
-            LiteralKind::BitStr { terminated } => write!(f, "BitStr {}", u8::from(terminated)),
+            LiteralKind::ByteStr { terminated } => write!(f, "ByteStr {}", one_if(terminated)),
+            LiteralKind::BitStr { terminated } => write!(f, "BitStr {}", one_if(terminated)),
             LiteralKind::DollarQuotedString { terminated } => write!(
                 f,
                 "DollarQuotedString {}",
-                u8::from(terminated)
+                one_if(terminated)
             ),
             LiteralKind::UnicodeEscStr { terminated } => write!(
                 f,
                 "UnicodeEscStr {}",
-                u8::from(terminated)
+                one_if(terminated)
             ),
-            LiteralKind::EscStr { terminated } => write!(f, "EscStr {}", u8::from(terminated)),
+            LiteralKind::EscStr { terminated } => write!(f, "EscStr {}", one_if(terminated)),
         }
     }
 }
@@ -77,7 +84,7 @@ impl fmt::Display for Shown {
             TokenKind::PsqlCommand { ends_query } => write!(
                 f,
                 "PsqlCommand {}",
-                u8::from(ends_query)
+                one_if(ends_query)
             ),
             TokenKind::Semi => f.write_str("Semi"),
             TokenKind::Eof => f.write_str("Eof"),
@@ -86,7 +93,7 @@ impl fmt::Display for Shown {
             TokenKind::BlockComment { terminated } => write!(
                 f,
                 "BlockComment {}",
-                u8::from(terminated)
+                one_if(terminated)
             ),
             TokenKind::Minus => f.write_str("Minus"),
             TokenKind::Colon => f.write_str("Colon"),
@@ -120,12 +127,7 @@ impl fmt::Display for Shown {
             TokenKind::QuotedIdent {
                 terminated,
                 uescape,
-            } => write!(
-                f,
-                "QuotedIdent {} {}",
-                u8::from(terminated),
-                u8::from(uescape)
-            ),
+            } => write!(f, "QuotedIdent {} {}", one_if(terminated), one_if(uescape)),
         }
     }
 }

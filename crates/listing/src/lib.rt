@@ -63,7 +63,8 @@ fn list_token(
 ) -> Result<(), AllocError>
     requires some { 0 < token.len }
     requires inside { walk.old.place + token.len ≤ size }
-    ensures lines { OnOk result (string_bytes lines.new ≡ string_bytes lines.old ++ lines_of_token size walk.old token) }
+    ensures lines { OnOk result
+        (string_bytes lines.new ≡ string_bytes lines.old ++ lines_of_token size walk.old token) }
     ensures walk { OnOk result (walk.new ≡ past walk.old token (end_there size walk.old token)) }
 {
     let place = walk.place();
@@ -107,24 +108,32 @@ fn admit(input: &[u8]) -> Result<(), ProgramFault>
     admit_text(&Flat::new(input))
 }
 
+/// The listing of a text that is listed, or refused, as was found.
+fn list_admitted<T: Text>(
+    heap: Global,
+    text: &T,
+    admitted: Result<(), ProgramFault>,
+) -> Result<Listing, AllocError>
+    ensures { IfOk result (Answers (T.bytes text.now) admitted) }
+{
+    match admitted {
+        Ok(()) => Ok(Listing::Listed(list_tokens(heap, text)?)),
+        Err(fault) => Ok(Listing::Refused(refusal(heap, fault)?)),
+    }
+}
+
 /// The listing of any text: its lines, or its refusal if it is not fit to be read.
 pub fn list_text<T: Text>(heap: Global, text: &T) -> Result<Listing, AllocError>
     ensures { IfOk result (Answers (T.bytes text.now) (in_text (checked (T.bytes text.now)))) }
 {
-    match admit_text(text) {
-        Ok(()) => Ok(Listing::Listed(list_tokens(heap, text)?)),
-        Err(fault) => Ok(Listing::Refused(refusal(heap, fault)?)),
-    }
+    list_admitted(heap, text, admit_text(text))
 }
 
 /// The listing of an input of the program.
 pub fn list_input(heap: Global, input: &[u8]) -> Result<Listing, AllocError>
     ensures { IfOk result (Answers input.now (admitted input.now)) }
 {
-    match admit(input) {
-        Ok(()) => Ok(Listing::Listed(list_tokens(heap, &Flat::new(input))?)),
-        Err(fault) => Ok(Listing::Refused(refusal(heap, fault)?)),
-    }
+    list_admitted(heap, &Flat::new(input), admit(input))
 }
 
 #[cfg(test)]

@@ -30,7 +30,8 @@ impl Model for Walk {
 
     ghost view = { λ w. walked_of w.place w.tokens w.ends w.rule w.start w.passed w.solid };
 
-    ghost invariant = { λ w. Within (walked_of w.place w.tokens w.ends w.rule w.start w.passed w.solid) };
+    ghost invariant = { λ w.
+        Within (walked_of w.place w.tokens w.ends w.rule w.start w.passed w.solid) };
 }
 
 impl Walk {
@@ -59,7 +60,8 @@ impl Walk {
     pub(crate) fn pass(&mut self, token: Token, last: bool) -> Option<EndLine>
         requires some { 0 < token.len }
         requires fits { self.old.place + token.len < 2 ^ 32 }
-        ensures line { result ≡ option_map (end_line self.old token) (end_after self.old.rule token last) }
+        ensures line { result
+            ≡ option_map (end_line self.old token) (end_after self.old.rule token last) }
         ensures after { self.new ≡ past self.old token (end_after self.old.rule token last) }
     {
         self.place += token.len;

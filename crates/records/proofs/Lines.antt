@@ -1,5 +1,9 @@
 -- One byte further in the search for a line's end and for an empty line.
 use Rattle.std.proofs.Common.{◌≡◌, ℕ, ◌+◌, ◌<◌, ◌≤◌, Bool, true, false, cond, ◌&&◌, eqb, List, length, get_or, drop, refl, ap, ◌∙◌}
+use Rattle.std.proofs.Common.{Some, None, nat_lt, arith}
+use Rattle.std.specs.Prelude.{if◌then◌else◌}
+use Rattle.std.specs.Option.{unwrap_or}
+use Rattle.std.proofs.lemmas.Bool.Decides.{nat_tests}
 use Rattle.records.specs.Record.{lines_length}
 use Rattle.std.proofs.lemmas.List.{drop_more, drop_all}
 
@@ -23,3 +27,7 @@ lines_length_past starts xs i h = ap (lines_length starts) (drop_all i xs h)
 pub and_false : (a : Bool) → (a && false) ≡ false
 and_false true = refl
 and_false false = refl
+
+-- the place found, or the length where none is
+pub unwrap_or-found : (place size : ℕ) → place ≤ size → unwrap_or (if nat_lt place size then Some place else None) size ≡ place
+unwrap_or-found place size h = grind (arith, nat_tests)

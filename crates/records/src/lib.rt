@@ -1,6 +1,7 @@
 //! The recorded list: texts, and the listing that is expected of each.
 //!
-//! A record is a line with the text's bytes in lower-case hexadecimal digits, the lines of its listing, and an empty line.
+//! A record is a line with the text's bytes in lower-case hexadecimal digits, the lines of its listing,
+//! and an empty line.
 #![tactic(auto)]
 
 mod hex;

@@ -42,16 +42,13 @@ fn split(bytes: &[u8], place: usize) -> Option<(&[u8], &[u8])>
 }
 
 /// How many bytes stand before the first line end.
-#[tactic(auto, using(std::proofs::lemmas::List::Sums::position_or_len_is))]
 fn line_length(bytes: &[u8]) -> usize
     ensures { result ≡ position_or_len (λ b. b == 10) bytes.now }
 {
-    for (place, byte) in bytes.iter().enumerate() {
-        if *byte == b'\n' {
-            return place;
-        }
-    }
-    bytes.len()
+    bytes
+        .iter()
+        .position(|byte| *byte == b'\n')
+        .unwrap_or(bytes.len())
 }
 
 /// How many bytes stand before the first empty line.

@@ -26,7 +26,8 @@ fn read_list<R: Read + Drop>(heap: Global, input: R) -> anyhow::Result<Vec<u8>> 
 
 /// The listing of a text in hexadecimal digits.
 fn list_digits(heap: Global, digits: &[u8]) -> anyhow::Result<Listing>
-    ensures { IfOk result (λ listing. (text : List ℕ) → decoded digits.now ≡ Some text → Answers text (admitted text) listing) }
+    ensures { IfOk result (λ listing.
+        (text : List ℕ) → decoded digits.now ≡ Some text → Answers text (admitted text) listing) }
 {
     let text = decode(heap, digits)?.ok_or(anyhow!("a text is not in hexadecimal digits"))?;
     Ok(list_input(heap, &text)?)
@@ -37,6 +38,7 @@ fn replay(rt: &HostRuntime, list: &[u8]) -> anyhow::Result<()> {
     let mut count = 0usize;
     let mut differing = 0usize;
     let mut rest = list;
+    // What is left after the last whole record is looked at below.
     while let Some(record) = next_record(rest) {
         count += 1;
         let listing = list_digits(rt.alloc(), record.digits)?;

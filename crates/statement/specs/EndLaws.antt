@@ -37,4 +37,5 @@ pub record EndStands (bs : List ℕ) (passed : ℕ) (cause : Cause) : Type 0 whe
 -- each statement of a text ends so, after its own tokens and those of the statements before it
 abbrev pub EndsStand : Type 0
 EndsStand =
-    (bs : List ℕ) (k : ℕ) (s : Statement) → slice_get (statements_of_text bs) k ≡ Some s → EndStands bs (tokens_in (take (k + 1) (statements_of_text bs))) s.cause
+    (bs : List ℕ) (k : ℕ) (s : Statement) → slice_get (statements_of_text bs) k ≡ Some s
+    → EndStands bs (tokens_in (take (k + 1) (statements_of_text bs))) s.cause

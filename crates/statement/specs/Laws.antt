@@ -53,15 +53,20 @@ Unbroken (t ∷ ts) = (ends_query (role t.kind) ≡ false) × Unbroken ts
 -- At most k parentheses are left open: every unbroken stretch at the end of the list has at most k more
 -- opening than closing ones.
 abbrev pub OpenAtMost : ℕ → List Token → Type 0
-OpenAtMost k ts = (front back : List Token) → front ++ back ≡ ts → Unbroken back → openings back ≤ closings back + k
+OpenAtMost k ts =
+    (front back : List Token) → front ++ back ≡ ts → Unbroken back
+    → openings back ≤ closings back + k
 
 -- The depth is how many parentheses are left open, in any list of fewer than 2 ^ 32 tokens.
 abbrev pub DepthCounts : Type 0
 DepthCounts =
-    (ts : List Token) (k : ℕ) → length ts ≤ 4294967295 → (state_after first_state ts ≤ k → OpenAtMost k ts) × (OpenAtMost k ts → state_after first_state ts ≤ k)
+    (ts : List Token) (k : ℕ) → length ts ≤ 4294967295
+    → (state_after first_state ts ≤ k → OpenAtMost k ts)
+    × (OpenAtMost k ts → state_after first_state ts ≤ k)
 
 -- A `;` ends a statement exactly where no parenthesis before it is left open.
 abbrev pub SemicolonEnds : Type 0
 SemicolonEnds =
     (ts : List Token) (t : Token) → length ts ≤ 4294967295 → t.kind ≡ Semi → t.len ≡ 1
-    → (own_end (state_after first_state ts) t ≡ Some Semicolon → OpenAtMost 0 ts) × (OpenAtMost 0 ts → own_end (state_after first_state ts) t ≡ Some Semicolon)
+    → (own_end (state_after first_state ts) t ≡ Some Semicolon → OpenAtMost 0 ts)
+    × (OpenAtMost 0 ts → own_end (state_after first_state ts) t ≡ Some Semicolon)

@@ -25,9 +25,11 @@ by_end (Some cause) goes_on ends = ends cause
 abbrev pub statements_on : ℕ → ℕ → ℕ → List Token → List Statement
 statements_on state passed met [] = []
 statements_on state passed met (t ∷ ts) =
+    let solids_met = met + (if solid t then 1 else 0) in
     by_end (end_after state t (length ts == 0))
-    (statements_on (next_state state t) (passed + 1) (met + (if solid t then 1 else 0)) ts)
-    (λ cause. record { tokens = passed + 1; solid = met + (if solid t then 1 else 0); cause = cause } ∷ statements_on (next_state state t) 0 0 ts)
+    (statements_on (next_state state t) (passed + 1) solids_met ts)
+    (λ cause. record { tokens = passed + 1; solid = solids_met; cause = cause }
+    ∷ statements_on (next_state state t) 0 0 ts)
 
 abbrev pub statements : ℕ → List Token → List Statement
 statements state ts = statements_on state 0 0 ts

@@ -189,77 +189,119 @@ mod tests {
     }
 
     #[test]
-    fn first_statements(rt: HostRuntime) {
-        let ident = one(TokenKind::Ident);
-        let semi = one(TokenKind::Semi);
-        let escaped = Token { len: 2, ..semi };
-        let open = one(TokenKind::OpenParen);
-        let close = one(TokenKind::CloseParen);
-        let command = one(TokenKind::PsqlCommand { ends_query: false });
-        let line = one(TokenKind::LineComment);
-        let comment = one(TokenKind::BlockComment { terminated: false });
-        let open_string = one(TokenKind::Literal {
-            kind: LiteralKind::Str { terminated: false },
-        });
-        let string = one(TokenKind::Literal {
-            kind: LiteralKind::Str { terminated: true },
-        });
-        let cases: [(&[Token], Option<Statement>); 8] = [
-            // a\;b;
-            (
-                &[ident, escaped, ident, semi],
-                ended(4, 4, Cause::Semicolon),
-            ),
-            // )(;);
-            (
-                &[close, open, semi, close, semi],
-                ended(5, 5, Cause::Semicolon),
-            ),
-            (&[command, line], ended(2, 1, Cause::Last)),
-            (&[ident, open_string], ended(2, 2, Cause::Unterminated)),
-            (&[ident, string], ended(2, 2, Cause::Last)),
-            (&[comment], ended(1, 0, Cause::Unterminated)),
-            // a(;)b;c
-            (
-                &[ident, open, semi, close, ident, semi, ident],
-                ended(6, 6, Cause::Semicolon),
-            ),
-            (&[], None),
-        ];
-        for (tokens, statement) in cases {
-            assert_eq!(rt; Ends::new().next_statement(tokens), statement);
-        }
-    }
-
-    #[test]
-    fn second_statements(rt: HostRuntime) {
-        let mut ends = Ends::new();
-        // a(;)b; and c
-        let first = [
+    fn semicolon_in_parentheses_ends_nothing(rt: HostRuntime) {
+        // a(;)b;c
+        let tokens = [
             one(TokenKind::Ident),
             one(TokenKind::OpenParen),
             one(TokenKind::Semi),
             one(TokenKind::CloseParen),
             one(TokenKind::Ident),
             one(TokenKind::Semi),
+            one(TokenKind::Ident),
         ];
-        assert_eq!(rt; ends.next_statement(&first), ended(6, 6, Cause::Semicolon));
+        let mut ends = Ends::new();
+        assert_eq!(rt; ends.next_statement(&tokens), ended(6, 6, Cause::Semicolon));
+        assert_eq!(rt; ends.next_statement(&tokens[6..]), ended(1, 1, Cause::Last));
+    }
+
+    #[test]
+    fn escaped_semicolon_ends_nothing(rt: HostRuntime) {
+        // a\;b;
+        let escaped = Token {
+            kind: TokenKind::Semi,
+            len: 2,
+        };
+        let tokens = [
+            one(TokenKind::Ident),
+            escaped,
+            one(TokenKind::Ident),
+            one(TokenKind::Semi),
+        ];
         assert_eq!(rt;
-            ends.next_statement(&[one(TokenKind::Ident)]),
-            ended(1, 1, Cause::Last)
+            Ends::new().next_statement(&tokens),
+            ended(4, 4, Cause::Semicolon)
         );
+    }
+
+    #[test]
+    fn stray_closing_parenthesis_counts_for_nothing(rt: HostRuntime) {
+        // )(;);
+        let tokens = [
+            one(TokenKind::CloseParen),
+            one(TokenKind::OpenParen),
+            one(TokenKind::Semi),
+            one(TokenKind::CloseParen),
+            one(TokenKind::Semi),
+        ];
+        assert_eq!(rt;
+            Ends::new().next_statement(&tokens),
+            ended(5, 5, Cause::Semicolon)
+        );
+    }
+
+    #[test]
+    fn command_ends_in_parentheses_and_closes_them(rt: HostRuntime) {
         // (\g and a line end, then ;
-        let ends_query = Token {
-            kind: TokenKind::PsqlCommand { ends_query: true },
+        let tokens = [
+            one(TokenKind::OpenParen),
+            Token {
+                kind: TokenKind::PsqlCommand { ends_query: true },
+                len: 2,
+            },
+            one(TokenKind::Whitespace),
+            one(TokenKind::Semi),
+        ];
+        let mut ends = Ends::new();
+        assert_eq!(rt; ends.next_statement(&tokens), ended(2, 2, Cause::Command));
+        assert_eq!(rt;
+            ends.next_statement(&tokens[2..]),
+            ended(2, 1, Cause::Semicolon)
+        );
+    }
+
+    #[test]
+    fn other_command_ends_nothing(rt: HostRuntime) {
+        let command = Token {
+            kind: TokenKind::PsqlCommand { ends_query: false },
             len: 2,
         };
         assert_eq!(rt;
-            ends.next_statement(&[one(TokenKind::OpenParen), ends_query]),
-            ended(2, 2, Cause::Command)
+            Ends::new().next_statement(&[command, one(TokenKind::LineComment)]),
+            ended(2, 1, Cause::Last)
+        );
+    }
+
+    #[test]
+    fn text_ends_inside_a_string(rt: HostRuntime) {
+        let open = TokenKind::Literal {
+            kind: LiteralKind::Str { terminated: false },
+        };
+        let closed = TokenKind::Literal {
+            kind: LiteralKind::Str { terminated: true },
+        };
+        assert_eq!(rt;
+            Ends::new().next_statement(&[one(TokenKind::Ident), one(open)]),
+            ended(2, 2, Cause::Unterminated)
         );
         assert_eq!(rt;
-            ends.next_statement(&[one(TokenKind::Whitespace), one(TokenKind::Semi)]),
-            ended(2, 1, Cause::Semicolon)
+            Ends::new().next_statement(&[one(TokenKind::Ident), one(closed)]),
+            ended(2, 2, Cause::Last)
         );
+    }
+
+    #[test]
+    fn text_ends_inside_a_comment(rt: HostRuntime) {
+        let open = TokenKind::BlockComment { terminated: false };
+        assert_eq!(rt;
+            Ends::new().next_statement(&[one(open)]),
+            ended(1, 0, Cause::Unterminated)
+        );
+    }
+
+    #[test]
+    fn no_tokens_make_no_statement(rt: HostRuntime) {
+        let none: [Token; 0] = [];
+        assert_eq!(rt; Ends::new().next_statement(&none), None);
     }
 }

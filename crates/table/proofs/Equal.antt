@@ -1,5 +1,5 @@
 -- Derived equality decides whether two tokens are equal.
-use Rattle.std.proofs.Common.{◌≡◌, ℕ, Bool, true, false, Decides, List, [], ◌∷◌, ap, refl, sym, subst, ◌∙◌, ◌==◌, rules}
+use Rattle.std.proofs.Common.{◌≡◌, ℕ, Bool, true, false, ◌↔◌, IsTrue, List, [], ◌∷◌, ap, refl, sym, subst, ◌∙◌, ◌==◌, rules}
 use Rattle.std.proofs.lemmas.Bool.{and_parts, eqb-true, false≢true}
 use Rattle.lexer.specs.declared.token.LiteralKind.{LiteralKind}
 use Rattle.lexer.specs.declared.token.TokenKind.{TokenKind}
@@ -36,8 +36,116 @@ alone x y h = refl
 
 pub kinds : (a b : TokenKind) → (kind.ghosts).eq a b ≡ true → a ≡ b
 kinds a b h =
-    let chosen : token_kind.as_values a ≡ token_kind.as_values b = same_choice token_kind.the_parts _ (token_kind.as_values a) (token_kind.as_values b) h (alone, ((λ x y h. ap (λ k. (k, tt)) (literals x.0 y.0 h)), (alone, (alone, ((λ x y h. search rules), (alone, (alone, (alone, (alone, ((λ x y h. search rules), (alone, (alone, (alone, (alone, (alone, (alone, (alone, (alone, (alone, (alone, (alone, (alone, (alone, (alone, (alone, (alone, (alone, (alone, (alone, (alone, (alone, (alone, (alone, (alone, (alone, (alone, ((λ x y h. search rules), ((λ x y h. search rules), tt)))))))))))))))))))))))))))))))))))))) in
-    sym (token_kind.the_eta a) ∙ ap token_kind.the_make {x = token_kind.as_values a} {y = token_kind.as_values b} chosen ∙ token_kind.the_eta b
+    let chosen : token_kind.as_values a ≡ token_kind.as_values b =
+    same_choice token_kind.the_parts _ (token_kind.as_values a) (token_kind.as_values b) h (
+      alone,
+      (
+        (λ x y h. ap (λ k. (k, tt)) (literals x.0 y.0 h)),
+        (
+          alone,
+          (
+            alone,
+            (
+              (λ x y h. search rules),
+              (
+                alone,
+                (
+                  alone,
+                  (
+                    alone,
+                    (
+                      alone,
+                      (
+                        (λ x y h. search rules),
+                        (
+                          alone,
+                          (
+                            alone,
+                            (
+                              alone,
+                              (
+                                alone,
+                                (
+                                  alone,
+                                  (
+                                    alone,
+                                    (
+                                      alone,
+                                      (
+                                        alone,
+                                        (
+                                          alone,
+                                          (
+                                            alone,
+                                            (
+                                              alone,
+                                              (
+                                                alone,
+                                                (
+                                                  alone,
+                                                  (
+                                                    alone,
+                                                    (
+                                                      alone,
+                                                      (
+                                                        alone,
+                                                        (
+                                                          alone,
+                                                          (
+                                                            alone,
+                                                            (
+                                                              alone,
+                                                              (
+                                                                alone,
+                                                                (
+                                                                  alone,
+                                                                  (
+                                                                    alone,
+                                                                    (
+                                                                      alone,
+                                                                      (
+                                                                        alone,
+                                                                        (
+                                                                          alone,
+                                                                          (alone, ((λ x y h. search rules), ((λ x y h. search rules), tt))),
+                                                                        ),
+                                                                      ),
+                                                                    ),
+                                                                  ),
+                                                                ),
+                                                              ),
+                                                            ),
+                                                          ),
+                                                        ),
+                                                      ),
+                                                    ),
+                                                  ),
+                                                ),
+                                              ),
+                                            ),
+                                          ),
+                                        ),
+                                      ),
+                                    ),
+                                  ),
+                                ),
+                              ),
+                            ),
+                          ),
+                        ),
+                      ),
+                    ),
+                  ),
+                ),
+              ),
+            ),
+          ),
+        ),
+      ),
+    ) in
+    sym (token_kind.the_eta a)
+    ∙ ap token_kind.the_make {x = token_kind.as_values a} {y = token_kind.as_values b} chosen
+    ∙ token_kind.the_eta b
 
 tokens : (a b : Token) → same a b ≡ true → a ≡ b
 unfolding same
@@ -50,5 +158,5 @@ itself : (a : Token) → same a a ≡ true
 unfolding same
 itself a = (laws.laws-law).refl a
 
-pub same_decides : (a b : Token) → Decides (same a b) (a ≡ b)
+pub same_decides : (a b : Token) → IsTrue (same a b) ↔ (a ≡ b)
 same_decides a b = (tokens a b, (λ e. subst (λ t. same a t ≡ true) e (itself a)))

@@ -50,9 +50,6 @@ pub record Reading (bs : List ℕ) (place count : ℕ) : Type 0 where
   pub there : place ≡ border bs count
   pub within : count ≤ length (cut bs)
 
-pub reading_start : (bs : List ℕ) → Reading bs 0 0
-reading_start bs = record { few = omega arith; inside = omega arith; there = refl; within = omega arith }
-
 module _ (laws : AllLaws) (bs : List ℕ) (place count : ℕ) (so : Reading bs place count) where
   -- the token at its place is the next of the cut
   pub reading_next : token_at bs place ≡ slice_get (cut bs) count

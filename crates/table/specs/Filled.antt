@@ -8,7 +8,8 @@ use Rattle.text.specs.Fit.{checked}
 use Rattle.text.specs.declared.fault.TextFault.{TextFault}
 
 -- the fault that the check of a text met, or else an answer
-abbrev pub if_fit : {A E : Type 0} → (TextFault → E) → Result (Unit {0}) TextFault → Result A E → Result A E
+abbrev pub if_fit : {A E : Type 0}
+    → (TextFault → E) → Result (Unit {0}) TextFault → Result A E → Result A E
 if_fit in_text (Ok fit) answer = answer
 if_fit in_text (Err fault) answer = Err (in_text fault)
 

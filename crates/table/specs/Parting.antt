@@ -10,7 +10,9 @@ unfoldable pub parting_from : ℕ → List Token → List Token → Option ℕ
 parting_from index [] [] = None
 parting_from index [] (u ∷ us) = Some index
 parting_from index (t ∷ ts) [] = Some index
-parting_from index (t ∷ ts) (u ∷ us) = if same t u then parting_from (index + 1) ts us else Some index
+parting_from index (t ∷ ts) (u ∷ us) =
+    if same t u then parting_from (index + 1) ts us
+    else Some index
 
 abbrev pub parting : List Token → List Token → Option ℕ
 parting ts us = parting_from 0 ts us
@@ -18,4 +20,5 @@ parting ts us = parting_from 0 ts us
 -- so none means that the lists are equal, and an index that they are equal before it and not at it
 abbrev pub Tells : List Token → List Token → Option ℕ → Type 0
 Tells ts us None = ts ≡ us
-Tells ts us (Some index) = (take index ts ≡ take index us) × (slice_get ts index ≢ slice_get us index)
+Tells ts us (Some index) =
+    (take index ts ≡ take index us) × (slice_get ts index ≢ slice_get us index)

@@ -18,6 +18,7 @@ fn parting<T: Text>(text: &T, tokens: &[Token]) -> Option<u32>
 {
     let mut place: u32 = 0;
     let mut index: u32 = 0;
+    // The index goes over the list, and the place over the text.
     while (index as usize) < tokens.len() {
         let Some(token) = token_at(text, place) else {
             return Some(index);
@@ -35,7 +36,8 @@ fn parting<T: Text>(text: &T, tokens: &[Token]) -> Option<u32>
 /// None where a list of tokens is the cut of a text, and else the first index where they part, a missing entry on
 /// either side included.
 pub fn check_tokens<T: Text>(text: &T, tokens: &[Token]) -> Result<Option<u32>, TextFault>
-    ensures value { result ≡ if_fit (λ fault. fault) (checked (T.bytes text.now)) (Ok (parting (cut (T.bytes text.now)) tokens.now)) }
+    ensures value { result ≡ if_fit (λ fault. fault) (checked (T.bytes text.now))
+        (Ok (parting (cut (T.bytes text.now)) tokens.now)) }
     ensures tells { IfOk result (Tells (cut (T.bytes text.now)) tokens.now) }
 {
     check(text)?;

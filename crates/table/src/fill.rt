@@ -15,6 +15,7 @@ fn count_tokens<T: Text>(text: &T) -> u32
 {
     let mut place: u32 = 0;
     let mut count: u32 = 0;
+    // Tokens are read by the call for the token at a place: no iterator over them is kept.
     while let Some(token) = token_at(text, place) {
         place += token.len;
         count += 1;
@@ -25,7 +26,8 @@ fn count_tokens<T: Text>(text: &T) -> u32
 /// Writes the tokens of a text into the first entries of a table that has room for them.
 fn write_tokens<T: Text>(text: &T, table: &mut [Token])
     requires { length (cut (T.bytes text.now)) ≤ length table.old }
-    ensures { table.new ≡ cut (T.bytes text.now) ++ drop (length (cut (T.bytes text.now))) table.old }
+    ensures { table.new
+        ≡ cut (T.bytes text.now) ++ drop (length (cut (T.bytes text.now))) table.old }
 {
     let mut place: u32 = 0;
     for entry in table.iter_mut() {

@@ -1,13 +1,16 @@
-use Rattle.std.proofs.Common.{sym, ap, ◌∙◌, subst}
-use Rattle.lexer.specs.Cut.{cut}
-use Rattle.listing.specs.declared.Listing.TheVariants.{Listed}
-use Rattle.listing.specs.Listed.{Answers, listed}
-use Rattle.listing.proofs.Inputs.{clip_all, short_from_admitted}
+use Rattle.std.proofs.Common.{sym, subst}
+use Rattle.std.proofs.lemmas.Result.{IfOk-weaker}
+use Rattle.std.specs.Result.{IfOk}
+use Rattle.listing.specs.Listed.{Answers}
+use Rattle.text.specs.Clip.{clip}
+use Rattle.listing.proofs.Inputs.{answers_unclipped}
 use Rattle.listing.proofs.list_input.Goals as goal
 
-pub returns-in_ok-list_tokens-in-Ok : goal.returns-in_ok-list_tokens-in-Ok
-returns-in_ok-list_tokens-in-Ok c =
+pub returns : goal.returns
+returns c =
     let input = c.args.input.now in
-    let taken = sym c.admit.ensures ∙ c.in-Ok.is in
-    let whole = c.new.ensures.bytes ∙ clip_all input (short_from_admitted input taken) in
-    subst (λ a. Answers input a (Listed c.in_ok-list_tokens-in-Ok.field-0)) (sym taken) (c.in_ok-list_tokens-in-Ok.ensures ∙ ap (λ bs. listed (cut bs)) whole)
+    let found = c.admit.result in
+    let as_found = sym c.admit.ensures in
+    let clipped = subst (λ bs. IfOk c.list_admitted.result (Answers (clip bs) found)) c.new.ensures.run c.list_admitted.ensures in
+    subst (λ a. IfOk c.list_admitted.result (Answers input a)) c.admit.ensures
+    (IfOk-weaker c.list_admitted.result (Answers (clip input) found) (Answers input found) (λ l. answers_unclipped input found l as_found) clipped)

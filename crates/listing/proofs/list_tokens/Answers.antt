@@ -23,15 +23,6 @@ loop-token-preserved g c =
       walking_more bs size w (string_bytes c.loop-token.lines) inv.2 c.list_token.new.walk (string_bytes c.list_token.new.lines) t (ap (token_at bs) (sym c.place.ensures) ∙ sym c.in-Some.ensures.value) there.0 onward c.in_ok-list_token.ensures.lines,
     )
 
-pub loop-token-smaller : goal.loop-token-smaller
-loop-token-smaller g c =
-    let w = c.loop-token.walk in
-    let t = c.in-Some.token in
-    let end = end_there c.len-size.result w t in
-    let there = c.in-Some.ensures.inside in
-    let inv = c.loop-token.invariant in
-    omega (arith, c.place.ensures, there.0, there.1, ap (λ u. u.place) c.in_ok-list_token.ensures.walk, place-past w t end, inv.0)
-
 pub returns : goal.returns
 returns g c =
     let bs = g.T.Text.bytes c.args.text.now in
