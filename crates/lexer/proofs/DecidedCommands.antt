@@ -4,32 +4,35 @@ use Rattle.lexer.proofs.Decided.{Decided, both_counted, chosen_counted, in_turn,
 use Rattle.lexer.proofs.DecidedParts.{arguments_decided, options_decided, run_decided}
 use Rattle.lexer.specs.Class.{all_but, command_letter, line_blank}
 use Rattle.lexer.specs.Cursor.{peek, run}
-use Rattle.lexer.specs.Psql.{before_pipe, command, command_len, followed, meaning, opened_options, psql_kind, psql_len, what_follows}
+use Rattle.lexer.specs.Psql.{before_pipe, command, command_len, ends_query, followed, meaning, opened_options, psql_kind, psql_len, reads_line, takes_pipe, what_follows}
 use Rattle.lexer.specs.PsqlArg.{arguments, options}
 use Rattle.lexer.specs.declared.psql.Command.{Command}
+use Rattle.lexer.specs.declared.psql.Command.TheVariants.{EndsQuery, Nothing, ReadsLine, SendsQuery, TakesPipe}
 use Rattle.lexer.specs.declared.psql_arg.ArgState.TheVariants.{Outside}
 use Rattle.lexer.specs.declared.token.TokenKind.TheVariants.{Colon, PsqlCommand, Semi}
 
+opened_decided : Decided opened_options opened_options
+opened_decided =
+    chosen_counted (λ xs. eqb (peek 0 xs) 40) (options Outside None) (λ _. 0)
+    (seen opened_options (λ a _. eqb a 40)) (options_decided Outside None) (λ _ _ _ _. refl)
+
+before_decided : (k : Command) → Decided (before_pipe k) (before_pipe k)
+before_decided SendsQuery = both_counted (run line_blank) opened_options (run_decided line_blank) opened_decided
+before_decided TakesPipe = run_decided line_blank
+before_decided Nothing = λ _ _ _ _. refl
+before_decided EndsQuery = λ _ _ _ _. refl
+before_decided ReadsLine = λ _ _ _ _. refl
+
 module _ (k : Command) where
-  opened_decided : Decided (opened_options k) (opened_options k)
-  opened_decided =
-      chosen_counted (λ xs. k.takes_options && eqb (peek 0 xs) 40) (options Outside None) (λ _. 0)
-      (seen (opened_options k) (λ a _. k.takes_options && eqb a 40)) (options_decided Outside None) (λ _ _ _ _. refl)
-
-  before_decided : Decided (before_pipe k) (before_pipe k)
-  before_decided =
-      chosen_counted (λ _. k.takes_pipe) (followed (run line_blank) (opened_options k)) (λ _. 0) (λ _ _ _ _. refl)
-      (both_counted (run line_blank) (opened_options k) (run_decided line_blank) opened_decided) (λ _ _ _ _. refl)
-
   follows_decided : Decided (what_follows k) (what_follows k)
   follows_decided =
-      chosen_counted (λ xs. k.reads_line || (k.takes_pipe && eqb (peek 0 xs) 124)) (run (all_but 10 13))
+      chosen_counted (λ xs. reads_line k || (takes_pipe k && eqb (peek 0 xs) 124)) (run (all_but 10 13))
       (arguments Outside)
-      (seen (what_follows k) (λ a _. k.reads_line || (k.takes_pipe && eqb a 124)))
+      (seen (what_follows k) (λ a _. reads_line k || (takes_pipe k && eqb a 124)))
       (run_decided (all_but 10 13)) (arguments_decided Outside)
 
   tail_decided : Decided (followed (before_pipe k) (what_follows k)) (followed (before_pipe k) (what_follows k))
-  tail_decided = both_counted (before_pipe k) (what_follows k) before_decided follows_decided
+  tail_decided = both_counted (before_pipe k) (what_follows k) (before_decided k) follows_decided
 
 -- what follows the word of a command
 abbrev tail : List ℕ → List ℕ → ℕ
@@ -58,4 +61,4 @@ pub psql_kind_decided : Decided psql_len psql_kind
 psql_kind_decided [] s t h = absurd (omega arith)
 psql_kind_decided (x ∷ p) s t h =
     alike_but_last (eqb x 92) (eqb x 59) (eqb x 58) (command_len (x ∷ p ++ s)) (length (x ∷ p))
-    (PsqlCommand false) Semi Colon (λ k. ap (λ c. PsqlCommand c.ends_query) (command_decided (x ∷ p) s t k)) h
+    (PsqlCommand false) Semi Colon (λ k. ap (λ c. PsqlCommand (ends_query c)) (command_decided (x ∷ p) s t k)) h

@@ -1,10 +1,8 @@
 -- How moves of the cursor join.
 use Rattle.std.proofs.Common.{◌≡◌, ℕ, suc, ◌+◌, Bool, true, false, List, [], ◌∷◌, drop, sym, refl, ap, ◌∙◌, subst, arith}
 use Rattle.lexer.specs.Cursor.{Moved, Spot, next_len, peek, rest}
+use Rattle.std.proofs.lemmas.Bool.{false≢true}
 use Rattle.std.proofs.lemmas.List.{drop-drop}
-
-true_not_false : true ≡ false → ⊥
-true_not_false e = let z : ◌≡◌ {A = ℕ} 0 1 = cc in omega arith
 
 -- where a byte other than 0 is next, it is one byte
 pub next_one : (xs : List ℕ) (b : ℕ) → peek 0 xs ≡ suc b → next_len xs ≡ 1
@@ -13,7 +11,7 @@ next_one (x ∷ xs) b e = refl
 
 -- the same where it is in a class that does not hold 0
 pub next_in_lem : (class : ℕ → Bool) (xs : List ℕ) → class 0 ≡ false → class (peek 0 xs) ≡ true → next_len xs ≡ 1
-next_in_lem class [] lacks e = let z : true ≡ false = sym e ∙ lacks in absurd (true_not_false z)
+next_in_lem class [] lacks e = absurd (false≢true (sym lacks ∙ e))
 next_in_lem class (x ∷ xs) lacks e = refl
 
 -- a cursor that stays

@@ -1,10 +1,10 @@
 -- How the parts of a number make its kind and its length.
-use Rattle.std.proofs.Common.{◌≡◌, ℕ, ◌+◌, ◌≤◌, Bool, true, false, not, ◌&&◌, eqb, List, [], ◌∷◌, length, drop, Some, None, refl, ap, ◌∙◌, arith}
+use Rattle.std.proofs.Common.{◌≡◌, ◌⊎◌, ℕ, ◌+◌, ◌≤◌, Bool, true, false, not, ◌&&◌, eqb, List, [], ◌∷◌, length, drop, Some, None, sym, refl, ap, ◌∙◌, subst, inl, inr, arith}
 use Rattle.lexer.specs.Class.{decimal, hexadecimal}
 use Rattle.lexer.specs.Cursor.{Moved, Spot, digit_met, digits, identifier, next_len, peek, rest}
 use Rattle.lexer.specs.Number.{after_digits, after_digits_len, base_of, based, based_len, decimal_len, empty_exponent, exponent, exponent_digits, exponent_mark, exponent_tail, fraction, fractional, fractional_len, has_point, in_base, in_base_len, number, number_len, numeric, numeric_len, sign}
 use Rattle.lexer.specs.declared.token.Base.{Base}
-use Rattle.lexer.specs.declared.token.Base.TheVariants.{Decimal}
+use Rattle.lexer.specs.declared.token.Base.TheVariants.{Binary, Octal, Decimal, Hexadecimal}
 use Rattle.lexer.specs.declared.token.LiteralKind.TheVariants.{Int}
 use Rattle.lexer.specs.declared.token.LiteralKind.{LiteralKind}
 use Rattle.lexer.proofs.Moves.{moved_by, moved_then, said_then}
@@ -78,21 +78,33 @@ pub number_in : (first at : ℕ) (xs : List ℕ) (base : Base) → base ≡ base
 unfolding number number_len
 number_in first at xs base e = (ap (λ b. in_base b at xs) e, ap (λ b. in_base_len b xs) e)
 
--- a number of a base that has a letter and these digits, read after the letter
-module _ (base : Base) (digit : ℕ → Bool) (has_letter : prefixed base ≡ true)
-    (kinds : (at : ℕ) (xs : List ℕ) → based base digit (at + 1) (drop 1 xs) ≡ in_base base at xs)
-    (lens : (xs : List ℕ) → 1 + based_len digit (drop 1 xs) ≡ in_base_len base xs) where
-  pub number_after_letter : (first : ℕ) {b : ℕ} {c d e : Spot} {k : LiteralKind} → base ≡ base_of first b
-      → b ≡ peek 0 (rest c) → Moved c d (next_len (rest c)) → k ≡ based base digit d.eaten (rest d)
-      → Moved d e (based_len digit (rest d))
-      → (k ≡ number first c.eaten (rest c)) × Moved c e (number_len first (rest c))
-  number_after_letter first {c = c} is byte letter kind moved =
-      let xs = rest c in
-      let that : base ≡ base_of first (peek 0 xs) = is ∙ ap (base_of first) byte in
-      let whole = number_in first c.eaten xs base that in
-      let one = moved_by (prefix_letter first xs base that has_letter) letter in
-      let said = said_then (based base digit) one kind ∙ kinds c.eaten xs ∙ whole.0 in
-      (said, moved_by (lens xs ∙ whole.1) (moved_then (based_len digit) one moved))
+-- a base has a letter, and its numbers have these digits after it
+abbrev pub Lettered : (ℕ → Bool) → Base → Type 0
+Lettered digit base =
+    (prefixed base ≡ true)
+    × ((at : ℕ) (xs : List ℕ) → based base digit (at + 1) (drop 1 xs) ≡ in_base base at xs)
+    × ((xs : List ℕ) → 1 + based_len digit (drop 1 xs) ≡ in_base_len base xs)
+
+pub decimal_lettered : {base : Base} → (base ≡ Binary) ⊎ (base ≡ Octal) → Lettered decimal base
+decimal_lettered (inl is) = subst (Lettered decimal) (sym is) (refl, (λ _ _. refl), λ _. refl)
+decimal_lettered (inr is) = subst (Lettered decimal) (sym is) (refl, (λ _ _. refl), λ _. refl)
+
+pub hexadecimal_lettered : {base : Base} → base ≡ Hexadecimal → Lettered hexadecimal base
+hexadecimal_lettered is = subst (Lettered hexadecimal) (sym is) (refl, (λ _ _. refl), λ _. refl)
+
+-- a number of such a base, read after the letter
+pub number_after_letter : (base : Base) (digit : ℕ → Bool) (first : ℕ) {b : ℕ} {c d e : Spot} {k : LiteralKind}
+    → Lettered digit base → base ≡ base_of first b
+    → b ≡ peek 0 (rest c) → Moved c d (next_len (rest c)) → k ≡ based base digit d.eaten (rest d)
+    → Moved d e (based_len digit (rest d))
+    → (k ≡ number first c.eaten (rest c)) × Moved c e (number_len first (rest c))
+number_after_letter base digit first {c = c} lettered is byte letter kind moved =
+    let xs = rest c in
+    let that : base ≡ base_of first (peek 0 xs) = is ∙ ap (base_of first) byte in
+    let whole = number_in first c.eaten xs base that in
+    let one = moved_by (prefix_letter first xs base that lettered.0) letter in
+    let said = said_then (based base digit) one kind ∙ lettered.1 c.eaten xs ∙ whole.0 in
+    (said, moved_by (lettered.2 xs ∙ whole.1) (moved_then (based_len digit) one moved))
 
 -- a number ends within the list
 tail_within : (xs : List ℕ) → exponent_tail xs ≤ length xs

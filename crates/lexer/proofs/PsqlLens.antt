@@ -3,9 +3,10 @@ use Rattle.std.proofs.Common.{Option, None, ◌≡◌, ℕ, ◌+◌, ◌-◌, �
 use Rattle.lexer.proofs.Runs.{run_within, then_within}
 use Rattle.lexer.specs.Class.{all_but, command_letter, line_blank}
 use Rattle.lexer.specs.Cursor.{peek, run}
-use Rattle.lexer.specs.Psql.{before_pipe, command, command_len, followed, opened_options, psql_len, what_follows}
+use Rattle.lexer.specs.Psql.{before_pipe, command, command_len, followed, opened_options, psql_len, reads_line, takes_pipe, what_follows}
 use Rattle.lexer.specs.PsqlArg.{after, arguments, is_parenthesis, last_after, options, separates, stops}
 use Rattle.lexer.specs.declared.psql.Command.{Command}
+use Rattle.lexer.specs.declared.psql.Command.TheVariants.{EndsQuery, Nothing, ReadsLine, SendsQuery, TakesPipe}
 use Rattle.lexer.specs.declared.psql_arg.ArgState.{ArgState}
 use Rattle.lexer.specs.declared.psql_arg.ArgState.TheVariants.{Outside}
 use Rattle.std.proofs.lemmas.List.{length-drop}
@@ -40,18 +41,20 @@ options_within state last (x ∷ xs) =
 pub followed_within : (f g : List ℕ → ℕ) → ((xs : List ℕ) → f xs ≤ length xs) → ((xs : List ℕ) → g xs ≤ length xs) → (xs : List ℕ) → followed f g xs ≤ length xs
 followed_within f g p q xs = then_within g q (f xs) xs (p xs)
 
-opened_within : (k : Command) (xs : List ℕ) → opened_options k xs ≤ length xs
-opened_within k xs =
-    let long = options_within Outside None xs in
-    cond_both (k.takes_options && eqb (peek 0 xs) 40) (options Outside None xs) 0 (λ n. n ≤ length xs) (λ _. long) (λ _. omega arith)
+opened_within : (xs : List ℕ) → opened_options xs ≤ length xs
+opened_within xs =
+    cond_both (eqb (peek 0 xs) 40) (options Outside None xs) 0 (λ n. n ≤ length xs) (λ _. options_within Outside None xs) (λ _. omega arith)
 
 before_within : (k : Command) (xs : List ℕ) → before_pipe k xs ≤ length xs
-before_within k xs =
-    cond_both k.takes_pipe (followed (run line_blank) (opened_options k) xs) 0 (λ n. n ≤ length xs) (λ _. followed_within (run line_blank) (opened_options k) (run_within line_blank) (opened_within k) xs) (λ _. omega arith)
+before_within SendsQuery xs = followed_within (run line_blank) opened_options (run_within line_blank) opened_within xs
+before_within TakesPipe xs = run_within line_blank xs
+before_within Nothing xs = omega arith
+before_within EndsQuery xs = omega arith
+before_within ReadsLine xs = omega arith
 
 follows_within : (k : Command) (xs : List ℕ) → what_follows k xs ≤ length xs
 follows_within k xs =
-    cond_both (k.reads_line || (k.takes_pipe && eqb (peek 0 xs) 124)) (run (all_but 10 13) xs) (arguments Outside xs) (λ n. n ≤ length xs) (λ _. run_within (all_but 10 13) xs) (λ _. arguments_within Outside xs)
+    cond_both (reads_line k || (takes_pipe k && eqb (peek 0 xs) 124)) (run (all_but 10 13) xs) (arguments Outside xs) (λ n. n ≤ length xs) (λ _. run_within (all_but 10 13) xs) (λ _. arguments_within Outside xs)
 
 command_within : (xs : List ℕ) → command_len xs ≤ length xs
 command_within xs =

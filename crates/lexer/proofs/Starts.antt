@@ -1,5 +1,5 @@
 -- What the start of a token says of its first bytes.
-use Rattle.std.proofs.Common.{◌≡◌, ℕ, true, false, ◌&&◌, eqb, sym, subst, arith, eqb-true}
+use Rattle.std.proofs.Common.{◌≡◌, ℕ, true, false, ◌&&◌, eqb, arith, eqb-true}
 use Rattle.lexer.specs.Class.{decimal, ident_start, whitespace}
 use Rattle.lexer.specs.Number.{either_case}
 use Rattle.lexer.specs.Start.{plain_start, quoted_start, start_of, symbol, unicode_start}
@@ -60,7 +60,3 @@ module _ (first next after : ℕ) where
       let both = and_parts (either_case 117 first) (eqb next 38) h in
       before_ampersand both.0 (eqb-true next 38 both.1)) (λ _.
       cond_both (eqb next 39) _ _ P (λ h. before_quote (eqb-true next 39 h)) (λ _. plain))))))
-
--- and so does a start that is named, where it is the one that is found
-pub begun_as : (first next after : ℕ) (s : Start) → s ≡ start_of first next after → Begins s first next after
-begun_as first next after s e = subst (λ t. Begins t first next after) (sym e) (begun first next after)

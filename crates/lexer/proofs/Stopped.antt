@@ -4,7 +4,7 @@ use Rattle.lexer.specs.Class.{all_but, command_letter, decimal, hexadecimal, ide
 use Rattle.lexer.specs.Cursor.{digits, identifier, peek, run}
 use Rattle.lexer.specs.Dollar.{parameter}
 use Rattle.lexer.specs.Number.{after_digits_len, base_of, based_len, decimal_len, exponent, exponent_mark, fraction, fractional_len, has_point, in_base_len, number_len, numeric_len}
-use Rattle.lexer.specs.Psql.{before_pipe, command, command_len, followed, what_follows}
+use Rattle.lexer.specs.Psql.{before_pipe, command, command_len, followed, reads_line, takes_pipe, what_follows}
 use Rattle.lexer.specs.PsqlArg.{after, arguments, stops}
 use Rattle.lexer.specs.declared.psql.Command.{Command}
 use Rattle.lexer.specs.declared.psql_arg.ArgState.TheVariants.{Outside}
@@ -113,7 +113,7 @@ arguments_stopped state (x ∷ xs) =
 
 follows_stopped : (k : Command) → Stopped (what_follows k)
 follows_stopped k xs =
-    cond_both (k.reads_line || (k.takes_pipe && eqb (peek 0 xs) 124)) _ _ (λ n. get_or xs n 0 < 128)
+    cond_both (reads_line k || (takes_pipe k && eqb (peek 0 xs) 124)) _ _ (λ n. get_or xs n 0 < 128)
     (λ _. line_stopped xs) (λ _. arguments_stopped Outside xs)
 
 pub command_stopped : Stopped command_len

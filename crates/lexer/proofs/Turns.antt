@@ -2,6 +2,7 @@
 use Rattle.std.proofs.Common.{◌≡◌, ℕ, zero, suc, ◌+◌, Bool, true, false, ◌&&◌, ◌||◌, ◌==◌, List, [], ◌∷◌, drop, Option, Some, None, refl, ap, ◌∙◌, arith}
 use Rattle.std.specs.Prelude.{if◌then◌else◌}
 use Rattle.std.specs.List.{slice_get}
+use Rattle.std.proofs.Math.Bool.{or-false, or-true}
 use Rattle.std.proofs.lemmas.Option.{gets, slice_get_within}
 use Rattle.lexer.specs.Class.{line_blank}
 use Rattle.lexer.specs.Cursor.{digit_met, digits, leads, peek, run}
@@ -75,12 +76,4 @@ options_turn state last (x ∷ xs) (suc i) =
     let next : suc (i + 1) ≡ suc i + 1 = omega arith in
     options_turn state last xs i ∙ ap (λ k. by_byte (slice_get xs i) 0 (λ b. if stops state b then 0 else if separates state b && is_parenthesis last then run line_blank (drop i xs) else if separates state b then 1 + options Outside None (drop k (x ∷ xs)) else 1 + options (after state b) (last_after state last b) (drop k (x ∷ xs)))) next
 
-pub or_true : (a : Bool) → (a || true) ≡ true
-or_true true = refl
-or_true false = refl
-
-pub or_false : (a : Bool) → (a || false) ≡ a
-or_false true = refl
-or_false false = refl
-
-pub ruleset turns = (run_turn, digits_turn, met_turn, arguments_turn, options_turn, or_true, or_false, gets)
+pub ruleset turns = (run_turn, digits_turn, met_turn, arguments_turn, options_turn, or-true, or-false, gets)

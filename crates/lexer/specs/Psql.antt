@@ -6,6 +6,8 @@ use Rattle.lexer.specs.Class.{all_but, command_letter, line_blank}
 use Rattle.lexer.specs.Cursor.{peek, run}
 use Rattle.lexer.specs.PsqlArg.{arguments, options}
 use Rattle.lexer.specs.declared.psql.Command.{Command}
+use Rattle.lexer.specs.declared.psql.Command.TheVariants.{Nothing, EndsQuery, SendsQuery}
+use Rattle.lexer.specs.declared.psql.Command.TheVariants.{TakesPipe, ReadsLine}
 use Rattle.lexer.specs.declared.psql.LetterCase.{LetterCase}
 use Rattle.lexer.specs.declared.psql.LetterCase.TheVariants.{Any, Exact}
 use Rattle.lexer.specs.declared.psql_arg.ArgState.TheVariants.{Outside}
@@ -26,66 +28,58 @@ spelt f [] (y ∷ ys) = false
 spelt f (x ∷ xs) [] = false
 spelt f (x ∷ xs) (y ∷ ys) = x == f y && spelt f xs ys
 
--- what any word does that is not listed
-abbrev pub nothing : Command
-nothing =
-    record { ends_query = false; takes_pipe = false; takes_options = false; reads_line = false }
+-- whether a word ends the query before it
+abbrev pub ends_query : Command → Bool
+ends_query EndsQuery = true
+ends_query SendsQuery = true
+ends_query other = false
 
--- a word that ends the query
-abbrev pub ends_query : Command
-ends_query =
-    record { ends_query = true; takes_pipe = false; takes_options = false; reads_line = false }
+-- whether a pipe to a program may follow it
+abbrev pub takes_pipe : Command → Bool
+takes_pipe SendsQuery = true
+takes_pipe TakesPipe = true
+takes_pipe other = false
 
--- a word that ends it, and takes a pipe, and options in parentheses before that
-abbrev pub sends_query : Command
-sends_query =
-    record { ends_query = true; takes_pipe = true; takes_options = true; reads_line = false }
-
--- a word that takes a pipe
-abbrev pub takes_pipe : Command
-takes_pipe =
-    record { ends_query = false; takes_pipe = true; takes_options = false; reads_line = false }
-
--- a word that takes the rest of its line
-abbrev pub reads_line : Command
-reads_line =
-    record { ends_query = false; takes_pipe = false; takes_options = false; reads_line = true }
+-- whether it takes the rest of its line
+abbrev pub reads_line : Command → Bool
+reads_line ReadsLine = true
+reads_line other = false
 
 -- the words that do something
 abbrev pub words : List (List ℕ × LetterCase × Command)
 words =
-    (codes "g", Exact, sends_query)
-    ∷ (codes "gx", Exact, sends_query)
-    ∷ (codes "gdesc", Exact, ends_query)
-    ∷ (codes "gexec", Exact, ends_query)
-    ∷ (codes "gset", Exact, ends_query)
-    ∷ (codes "getresults", Exact, ends_query)
-    ∷ (codes "crosstabview", Exact, ends_query)
-    ∷ (codes "watch", Exact, ends_query)
-    ∷ (codes "parse", Exact, ends_query)
-    ∷ (codes "close_prepared", Exact, ends_query)
-    ∷ (codes "sendpipeline", Exact, ends_query)
-    ∷ (codes "startpipeline", Exact, ends_query)
-    ∷ (codes "syncpipeline", Exact, ends_query)
-    ∷ (codes "endpipeline", Exact, ends_query)
-    ∷ (codes "flush", Exact, ends_query)
-    ∷ (codes "flushrequest", Exact, ends_query)
-    ∷ (codes "r", Exact, ends_query)
-    ∷ (codes "reset", Exact, ends_query)
-    ∷ (codes "o", Exact, takes_pipe)
-    ∷ (codes "out", Exact, takes_pipe)
-    ∷ (codes "w", Exact, takes_pipe)
-    ∷ (codes "write", Exact, takes_pipe)
-    ∷ (codes "!", Exact, reads_line)
-    ∷ (codes "ef", Exact, reads_line)
-    ∷ (codes "ev", Exact, reads_line)
-    ∷ (codes "sf", Exact, reads_line)
-    ∷ (codes "sf+", Exact, reads_line)
-    ∷ (codes "sv", Exact, reads_line)
-    ∷ (codes "sv+", Exact, reads_line)
-    ∷ (codes "h", Exact, reads_line)
-    ∷ (codes "help", Exact, reads_line)
-    ∷ (codes "copy", Any, reads_line)
+    (codes "g", Exact, SendsQuery)
+    ∷ (codes "gx", Exact, SendsQuery)
+    ∷ (codes "gdesc", Exact, EndsQuery)
+    ∷ (codes "gexec", Exact, EndsQuery)
+    ∷ (codes "gset", Exact, EndsQuery)
+    ∷ (codes "getresults", Exact, EndsQuery)
+    ∷ (codes "crosstabview", Exact, EndsQuery)
+    ∷ (codes "watch", Exact, EndsQuery)
+    ∷ (codes "parse", Exact, EndsQuery)
+    ∷ (codes "close_prepared", Exact, EndsQuery)
+    ∷ (codes "sendpipeline", Exact, EndsQuery)
+    ∷ (codes "startpipeline", Exact, EndsQuery)
+    ∷ (codes "syncpipeline", Exact, EndsQuery)
+    ∷ (codes "endpipeline", Exact, EndsQuery)
+    ∷ (codes "flush", Exact, EndsQuery)
+    ∷ (codes "flushrequest", Exact, EndsQuery)
+    ∷ (codes "r", Exact, EndsQuery)
+    ∷ (codes "reset", Exact, EndsQuery)
+    ∷ (codes "o", Exact, TakesPipe)
+    ∷ (codes "out", Exact, TakesPipe)
+    ∷ (codes "w", Exact, TakesPipe)
+    ∷ (codes "write", Exact, TakesPipe)
+    ∷ (codes "!", Exact, ReadsLine)
+    ∷ (codes "ef", Exact, ReadsLine)
+    ∷ (codes "ev", Exact, ReadsLine)
+    ∷ (codes "sf", Exact, ReadsLine)
+    ∷ (codes "sf+", Exact, ReadsLine)
+    ∷ (codes "sv", Exact, ReadsLine)
+    ∷ (codes "sv+", Exact, ReadsLine)
+    ∷ (codes "h", Exact, ReadsLine)
+    ∷ (codes "help", Exact, ReadsLine)
+    ∷ (codes "copy", Any, ReadsLine)
     ∷ []
 
 -- a row as the program has it
@@ -94,7 +88,7 @@ row r = (r.0.now, r.1, r.2)
 
 -- what a word does by a list of words
 abbrev pub found : List (List ℕ × LetterCase × Command) → List ℕ → Command
-found [] w = nothing
+found [] w = Nothing
 found (row ∷ rows) w = if spelt (fold row.1) row.0 w then row.2 else found rows w
 
 -- what a word does
@@ -106,21 +100,19 @@ abbrev pub followed : (List ℕ → ℕ) → (List ℕ → ℕ) → List ℕ →
 followed f g xs = f xs + g (drop (f xs) xs)
 
 -- the options of `\g`, if a parenthesis opens them
-abbrev pub opened_options : Command → List ℕ → ℕ
-opened_options command xs =
-    if command.takes_options && peek 0 xs == byte "(" then options Outside None xs
-    else 0
+abbrev pub opened_options : List ℕ → ℕ
+opened_options xs = if peek 0 xs == byte "(" then options Outside None xs else 0
 
--- before a pipe is looked for: the blanks, and the options
+-- before a pipe is looked for: the blanks, and the options of a word that sends the query
 abbrev pub before_pipe : Command → List ℕ → ℕ
-before_pipe command xs =
-    if command.takes_pipe then followed (run line_blank) (opened_options command) xs
-    else 0
+before_pipe SendsQuery xs = followed (run line_blank) opened_options xs
+before_pipe TakesPipe xs = run line_blank xs
+before_pipe other xs = 0
 
 -- the rest of the line for a word that reads it, or from a pipe on; else arguments
 abbrev pub what_follows : Command → List ℕ → ℕ
 what_follows command xs =
-    if command.reads_line || (command.takes_pipe && peek 0 xs == byte "|")
+    if reads_line command || (takes_pipe command && peek 0 xs == byte "|")
     then run (all_but 10 13) xs
     else arguments Outside xs
 
@@ -144,7 +136,7 @@ psql_kind xs =
     if peek 0 xs == byte "\\" then PsqlCommand false
     else if peek 0 xs == byte ";" then Semi
     else if peek 0 xs == byte ":" then Colon
-    else PsqlCommand (command xs).ends_query
+    else PsqlCommand (ends_query (command xs))
 
 -- the bytes after the backslash that belong to the token
 abbrev pub psql_len : List ℕ → ℕ

@@ -19,7 +19,7 @@ octal b = between (byte "0") (byte "7") b
 abbrev pub hex_value : ℕ → ℕ
 hex_value b =
     if decimal b then b - byte "0"
-    else if nat_lt b (byte "a") then b - byte "A" + 10
+    else if nat_lt b (byte "a") then b + 10 - byte "A"
     else b - byte "a" + 10
 
 -- outside all quotes; a single quote that closes may still turn out to be the first of two that

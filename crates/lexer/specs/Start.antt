@@ -1,5 +1,5 @@
 -- How a token starts: the first character decides, at times with the next ones.
-use Rattle.std.specs.Prelude.{ℕ, if◌then◌else◌, ◌&&◌, List, [], ◌∷◌, codes, ◌==◌}
+use Rattle.std.specs.Prelude.{ℕ, if◌then◌else◌, ◌&&◌, List, [], ◌∷◌, ◌==◌}
 use Rattle.lexer.specs.Byte.{byte}
 use Rattle.lexer.specs.Class.{decimal, ident_start, whitespace}
 use Rattle.lexer.specs.Number.{either_case}
@@ -9,19 +9,28 @@ use Rattle.lexer.specs.declared.start.Start.{Start}
 use Rattle.lexer.specs.declared.token.TokenKind.TheVariants.{And, At, Backtick, Bang, Caret, CloseBracket, CloseCurly, CloseParen, Colon, Comma, Dot, Eq, Gt, Lt, Minus, OpenBracket, OpenCurly, OpenParen, Or, Percent, Plus, Pound, Question, Semi, Slash, Star, Tilde, Unknown}
 use Rattle.lexer.specs.declared.token.TokenKind.{TokenKind}
 
--- the kind that stands under a byte, or `Unknown`
-abbrev pub kind_under : ℕ → List ℕ → List TokenKind → TokenKind
-kind_under b [] kinds = Unknown
-kind_under b (c ∷ cs) [] = Unknown
-kind_under b (c ∷ cs) (kind ∷ kinds) = if b == c then kind else kind_under b cs kinds
+-- the kind of each byte that is a token on its own
+abbrev pub symbols : List (ℕ × TokenKind)
+symbols =
+    (byte ";", Semi) ∷ (byte ",", Comma)
+    ∷ (byte "(", OpenParen) ∷ (byte ")", CloseParen)
+    ∷ (byte "[", OpenBracket) ∷ (byte "]", CloseBracket)
+    ∷ (byte "{", OpenCurly) ∷ (byte "}", CloseCurly)
+    ∷ (byte "@", At) ∷ (byte "#", Pound) ∷ (byte "~", Tilde) ∷ (byte "?", Question)
+    ∷ (byte ":", Colon) ∷ (byte ".", Dot) ∷ (byte "/", Slash) ∷ (byte "-", Minus)
+    ∷ (byte "`", Backtick) ∷ (byte "=", Eq) ∷ (byte "!", Bang)
+    ∷ (byte "<", Lt) ∷ (byte ">", Gt) ∷ (byte "&", And) ∷ (byte "|", Or)
+    ∷ (byte "+", Plus) ∷ (byte "*", Star) ∷ (byte "^", Caret) ∷ (byte "%", Percent)
+    ∷ []
+
+-- the kind that rows have for a byte, or `Unknown`
+abbrev pub kind_under : ℕ → List (ℕ × TokenKind) → TokenKind
+kind_under b [] = Unknown
+kind_under b ((c, kind) ∷ rows) = if b == c then kind else kind_under b rows
 
 -- the kinds of one character
 abbrev pub symbol : ℕ → TokenKind
-symbol b =
-    kind_under b (codes ";,()[]{}@#~?:./-`=!<>&|+*^%")
-    (Semi ∷ Comma ∷ OpenParen ∷ CloseParen ∷ OpenBracket ∷ CloseBracket ∷ OpenCurly ∷ CloseCurly
-    ∷ At ∷ Pound ∷ Tilde ∷ Question ∷ Colon ∷ Dot ∷ Slash ∷ Minus ∷ Backtick ∷ Eq
-    ∷ Bang ∷ Lt ∷ Gt ∷ And ∷ Or ∷ Plus ∷ Star ∷ Caret ∷ Percent ∷ [])
+symbol b = kind_under b symbols
 
 -- what starts with a byte, whatever follows it
 unfoldable pub plain_start : ℕ → Start

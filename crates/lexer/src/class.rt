@@ -4,6 +4,7 @@
 //! class below holds all of these bytes or none, so that a run never stops inside a character.
 
 ghost use Rattle.std.specs.Prelude.{◌≡◌, ℕ, Bool, false, refl};
+ghost use Rattle.lexer.specs.Byte.{byte};
 ghost use Rattle.lexer.specs.Class.{all_but, command_letter, decimal, hexadecimal, ident_cont, ident_start, line_blank, tag_cont, whitespace};
 
 /// A class says of each character whether it belongs.
@@ -99,13 +100,8 @@ impl Class for AllBut {
 }
 
 /// A class of digits. It does not hold the underscore, which may stand between two digits.
-pub(crate) trait DigitClass {
-    ghost digit: { ℕ → Bool };
-
-    fn has_digit(byte: u8) -> bool
-        ensures { result ≡ digit byte };
-
-    ghost bare: { digit 95 ≡ false };
+pub(crate) trait DigitClass: Class {
+    ghost bare: { (c : Self) → Self.holds c (byte "_") ≡ false };
 }
 
 /// 0 to 9.
@@ -121,26 +117,23 @@ impl Class for DecimalDigit {
 }
 
 impl DigitClass for DecimalDigit {
-    ghost digit = { decimal };
-
-    ghost bare = { refl };
-
-    fn has_digit(byte: u8) -> bool {
-        byte.is_ascii_digit()
-    }
+    ghost bare = { λ _. refl };
 }
 
 /// 0 to 9, a to f, A to F.
+#[derive(Clone, Copy)]
 pub(crate) struct HexDigit;
 
-impl DigitClass for HexDigit {
-    ghost digit = { hexadecimal };
+impl Class for HexDigit {
+    ghost holds = { λ _. hexadecimal };
 
-    ghost bare = { refl };
-
-    fn has_digit(byte: u8) -> bool {
+    fn has(&self, byte: u8) -> bool {
         byte.is_ascii_hexdigit()
     }
+}
+
+impl DigitClass for HexDigit {
+    ghost bare = { λ _. refl };
 }
 
 pub(crate) fn is_whitespace(byte: u8) -> bool

@@ -1,6 +1,7 @@
 //! The cursor: a place in a text, which eats the characters of one token after another.
 
 ghost use Rattle.std.specs.Prelude.{◌≡◌, ℕ, ◌+◌, ◌-◌, ◌<◌, ◌≤◌, ◌&&◌, length, drop, ◌==◌};
+ghost use Rattle.lexer.specs.Byte.{byte};
 ghost use Rattle.lexer.specs.Class.{all_but, ident_cont, whitespace};
 ghost use Rattle.lexer.specs.Cursor.{Eats, Moved, at_end, digit_met, digits, identifier, leads, next_len, opened, peek, rest, run};
 ghost use Rattle.std.specs.List.{slice_get};
@@ -202,11 +203,11 @@ impl<'a, T: Text> Cursor<'a, T> {
     }
 
     /// Eats the digits that follow, and says whether there are any.
-    pub(crate) fn eat_digits<C: DigitClass>(&mut self) -> bool
-        ensures met { result ≡ digit_met C.digit (rest self.old) }
-        ensures moved { Eats (digits C.digit) self.old self.new }
+    pub(crate) fn eat_digits<C: DigitClass>(&mut self, class: &C) -> bool
+        ensures met { result ≡ digit_met (C.holds class.now) (rest self.old) }
+        ensures moved { Eats (digits (C.holds class.now)) self.old self.new }
     {
-        let (end, has_digits) = digit_run::<C, T>(self.text(), self.place());
+        let (end, has_digits) = digit_run(self.text(), self.place(), class);
         self.move_to(end);
         has_digits
     }
@@ -228,17 +229,17 @@ pub(crate) fn run_end<C: Class, T: Text>(text: &T, place: u32, class: &C) -> u32
 /// Where the run of digits ends that begins at the place, and whether a digit was met: a pair, which the
 /// rules of numbers take apart. An underscore belongs to the run only if a digit follows it.
 #[tactic(auto, using(crate::proofs::Turns::turns))]
-fn digit_run<C: DigitClass, T: Text>(text: &T, place: u32) -> (u32, bool)
-    ensures end { result.0 ≡ place + digits C.digit (drop place (T.bytes text.now)) }
-    ensures met { result.1 ≡ digit_met C.digit (drop place (T.bytes text.now)) }
+fn digit_run<C: DigitClass, T: Text>(text: &T, place: u32, class: &C) -> (u32, bool)
+    ensures end { result.0 ≡ place + digits (C.holds class.now) (drop place (T.bytes text.now)) }
+    ensures met { result.1 ≡ digit_met (C.holds class.now) (drop place (T.bytes text.now)) }
 {
     let mut end = place;
     let mut met = false;
     // The place is an answer, and a turn may look one byte ahead.
     while let Some(byte) = text.byte(end) {
-        if C::has_digit(byte) {
+        if class.has(byte) {
             met = true;
-        } else if !is_joint::<C, T>(text, end, byte) {
+        } else if !is_joint(text, end, byte, class) {
             break;
         }
         end += 1;
@@ -248,9 +249,10 @@ fn digit_run<C: DigitClass, T: Text>(text: &T, place: u32) -> (u32, bool)
 
 /// Whether the byte at the place is an underscore that a digit of the class follows.
 #[tactic(auto, using(crate::proofs::Turns::leads_at))]
-fn is_joint<C: DigitClass, T: Text>(text: &T, place: u32, byte: u8) -> bool
+fn is_joint<C: DigitClass, T: Text>(text: &T, place: u32, here: u8, class: &C) -> bool
     requires { place < length (T.bytes text.now) }
-    ensures { result ≡ (byte == 95 && leads C.digit (drop (place + 1) (T.bytes text.now))) }
+    ensures { result ≡ (here == byte "_"
+        && leads (C.holds class.now) (drop (place + 1) (T.bytes text.now))) }
 {
-    byte == b'_' && text.byte(place + 1).is_some_and(|next| C::has_digit(next))
+    here == b'_' && text.byte(place + 1).is_some_and(|next| class.has(next))
 }

@@ -1,6 +1,7 @@
 //! What starts with a dollar sign: dollar-quoted strings and parameters.
 
 ghost use Rattle.std.specs.Prelude.{◌≡◌, ◌+◌, ◌≤◌, true, length, drop};
+ghost use Rattle.lexer.specs.Byte.{byte};
 ghost use Rattle.lexer.specs.Class.{decimal};
 ghost use Rattle.lexer.specs.Cursor.{Begun, Eats, rest, run};
 ghost use Rattle.lexer.specs.Dollar.{begins, delimited, delimited_closed, dollar_closed, dollar_kind, dollar_len, dollar_quoted, opens_dollar, parameter};
@@ -14,7 +15,7 @@ use text::Text;
 impl<'a, T: Text> Cursor<'a, T> {
     /// Goes on after a `$`, the token's first character.
     pub(crate) fn dollar(&mut self) -> TokenKind
-        requires sign { Begun 36 self.old }
+        requires sign { Begun (byte "$") self.old }
         ensures kind { result ≡ dollar_kind (rest self.old) }
         ensures moved { Eats dollar_len self.old self.new }
     {
@@ -41,7 +42,7 @@ impl<'a, T: Text> Cursor<'a, T> {
     /// Eats the rest of the opening delimiter and all up to and with the first whole delimiter
     /// after it. Says whether there is one.
     fn dollar_quoted_string(&mut self) -> bool
-        requires sign { Begun 36 self.old }
+        requires sign { Begun (byte "$") self.old }
         requires opens { opens_dollar (rest self.old) ≡ true }
         ensures closed { result ≡ dollar_closed (rest self.old) }
         ensures moved { Eats dollar_quoted self.old self.new }

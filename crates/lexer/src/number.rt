@@ -16,29 +16,26 @@ impl<'a, T: Text> Cursor<'a, T> {
         ensures kind { result ≡ number first_digit self.old.eaten (rest self.old) }
         ensures moved { Eats (number_len first_digit) self.old self.new }
     {
-        match base_of(first_digit, self.first()) {
-            Base::Binary => {
+        let base = base_of(first_digit, self.first());
+        match base {
+            Base::Binary | Base::Octal => {
                 self.bump();
-                self.based_int::<DecimalDigit>(Base::Binary)
-            }
-            Base::Octal => {
-                self.bump();
-                self.based_int::<DecimalDigit>(Base::Octal)
+                self.based_int(base, &DecimalDigit)
             }
             Base::Hexadecimal => {
                 self.bump();
-                self.based_int::<HexDigit>(Base::Hexadecimal)
+                self.based_int(base, &HexDigit)
             }
             Base::Decimal => self.decimal_number(),
         }
     }
 
     /// Goes on after the prefix of a base: the digits and the junk.
-    fn based_int<C: DigitClass>(&mut self, base: Base) -> LiteralKind
-        ensures kind { result ≡ based base C.digit self.old.eaten (rest self.old) }
-        ensures moved { Eats (based_len C.digit) self.old self.new }
+    fn based_int<C: DigitClass>(&mut self, base: Base, class: &C) -> LiteralKind
+        ensures kind { result ≡ based base (C.holds class.now) self.old.eaten (rest self.old) }
+        ensures moved { Eats (based_len (C.holds class.now)) self.old self.new }
     {
-        let has_digits = self.eat_digits::<C>();
+        let has_digits = self.eat_digits(class);
         let trailing_junk_start = self.pos_within_token();
         self.eat_identifier();
         let empty_int = !has_digits && self.pos_within_token() == trailing_junk_start;
@@ -54,7 +51,7 @@ impl<'a, T: Text> Cursor<'a, T> {
         ensures kind { result ≡ decimal_number self.old.eaten (rest self.old) }
         ensures moved { Eats decimal_len self.old self.new }
     {
-        self.eat_digits::<DecimalDigit>();
+        self.eat_digits(&DecimalDigit);
         self.after_digits()
     }
 
@@ -85,7 +82,7 @@ impl<'a, T: Text> Cursor<'a, T> {
         ensures moved { Eats fractional_len self.old self.new }
     {
         if self.first().is_ascii_digit() {
-            self.eat_digits::<DecimalDigit>();
+            self.eat_digits(&DecimalDigit);
         }
         self.eat_numeric()
     }
@@ -132,7 +129,7 @@ impl<'a, T: Text> Cursor<'a, T> {
         if is_sign(self.first()) {
             self.bump();
         }
-        self.eat_digits::<DecimalDigit>();
+        self.eat_digits(&DecimalDigit);
         true
     }
 

@@ -2,7 +2,7 @@
 
 ghost use Rattle.std.specs.Prelude.{◌≡◌, map};
 ghost use Rattle.lexer.specs.Cursor.{Eats, rest};
-ghost use Rattle.lexer.specs.Psql.{before_pipe, command, command_len, fold, found, meaning, opened_options, psql_kind, psql_len, row, spelt, what_follows};
+ghost use Rattle.lexer.specs.Psql.{before_pipe, command, command_len, ends_query, fold, found, meaning, opened_options, psql_kind, psql_len, row, spelt, what_follows};
 ghost use Rattle.lexer.specs.PsqlArg.{arguments};
 ghost use Rattle.lexer.specs.declared.psql_arg.ArgState.TheVariants.{Outside};
 
@@ -15,15 +15,26 @@ use text::Text;
 
 /// What the word of a command does.
 #[derive(Clone, Copy)]
-pub(crate) struct Command {
-    /// Whether it ends the query before it.
-    ends_query: bool,
-    /// Whether it may be followed by a pipe to a program.
-    takes_pipe: bool,
-    /// Whether options in parentheses may stand before that.
-    takes_options: bool,
-    /// Whether it takes the rest of its line as it is.
-    reads_line: bool,
+pub(crate) enum Command {
+    /// Nothing, as any word that is not listed.
+    Nothing,
+    /// It ends the query before it.
+    EndsQuery,
+    /// It ends the query, and sends its result to where options in parentheses, or a pipe, say.
+    SendsQuery,
+    /// It may be followed by a pipe to a program.
+    TakesPipe,
+    /// It takes the rest of its line as it is.
+    ReadsLine,
+}
+
+impl Command {
+    /// Whether the query before the command ends with it.
+    fn ends_query(self) -> bool
+        ensures { result ≡ ends_query self }
+    {
+        matches!(self, Command::EndsQuery | Command::SendsQuery)
+    }
 }
 
 impl<'a, T: Text> Cursor<'a, T> {
@@ -51,7 +62,7 @@ impl<'a, T: Text> Cursor<'a, T> {
 
     /// Eats a command word and what belongs to it.
     fn psql_word(&mut self) -> TokenKind
-        ensures kind { result ≡ TokenKind.PsqlCommand (command (rest self.old)).ends_query }
+        ensures kind { result ≡ TokenKind.PsqlCommand (ends_query (command (rest self.old))) }
         ensures moved { Eats command_len self.old self.new }
     {
         let place = self.place();
@@ -65,7 +76,7 @@ impl<'a, T: Text> Cursor<'a, T> {
         self.eat_before_pipe(command);
         self.eat_what_follows(command);
         TokenKind::PsqlCommand {
-            ends_query: command.ends_query,
+            ends_query: command.ends_query(),
         }
     }
 
@@ -73,9 +84,13 @@ impl<'a, T: Text> Cursor<'a, T> {
     fn eat_before_pipe(&mut self, command: Command)
         ensures { Eats (before_pipe command) self.old self.new }
     {
-        if command.takes_pipe {
-            self.eat_while(&LineBlank);
-            self.eat_options(command);
+        match command {
+            Command::SendsQuery => {
+                self.eat_while(&LineBlank);
+                self.eat_options();
+            }
+            Command::TakesPipe => self.eat_while(&LineBlank),
+            Command::Nothing | Command::EndsQuery | Command::ReadsLine => (),
         }
     }
 
@@ -83,18 +98,20 @@ impl<'a, T: Text> Cursor<'a, T> {
     fn eat_what_follows(&mut self, command: Command)
         ensures { Eats (what_follows command) self.old self.new }
     {
-        if command.reads_line || command.takes_pipe && self.first() == '|' {
-            self.eat_until2(b'\n', b'\r');
-        } else {
-            self.eat_arguments();
+        match command {
+            Command::ReadsLine => self.eat_until2(b'\n', b'\r'),
+            Command::SendsQuery | Command::TakesPipe if self.first() == '|' => {
+                self.eat_until2(b'\n', b'\r');
+            }
+            _ => self.eat_arguments(),
         }
     }
 
-    /// Eats options in parentheses, where the word takes them.
-    fn eat_options(&mut self, command: Command)
-        ensures { Eats (opened_options command) self.old self.new }
+    /// Eats options in parentheses, if one opens them.
+    fn eat_options(&mut self)
+        ensures { Eats opened_options self.old self.new }
     {
-        if command.takes_options && self.first() == '(' {
+        if self.first() == '(' {
             let end = options_end(self.text(), self.place());
             self.move_to(end);
         }
@@ -109,37 +126,6 @@ impl<'a, T: Text> Cursor<'a, T> {
     }
 }
 
-/// What any word does that is not listed.
-const NOTHING: Command = Command {
-    ends_query: false,
-    takes_pipe: false,
-    takes_options: false,
-    reads_line: false,
-};
-
-const ENDS_QUERY: Command = Command {
-    ends_query: true,
-    ..NOTHING
-};
-
-/// Ends the query, and sends its result to where options in parentheses, or a pipe, say.
-const SENDS_QUERY: Command = Command {
-    ends_query: true,
-    takes_pipe: true,
-    takes_options: true,
-    ..NOTHING
-};
-
-const TAKES_PIPE: Command = Command {
-    takes_pipe: true,
-    ..NOTHING
-};
-
-const READS_LINE: Command = Command {
-    reads_line: true,
-    ..NOTHING
-};
-
 /// How the letters of a word are compared.
 #[derive(Clone, Copy)]
 enum LetterCase {
@@ -152,41 +138,42 @@ enum LetterCase {
 /// The words that do something. `copy` is known whatever the case of its letters.
 #[rattlefmt::skip]
 const WORDS: [(&[u8], LetterCase, Command); 32] = [
-    (b"g", LetterCase::Exact, SENDS_QUERY),
-    (b"gx", LetterCase::Exact, SENDS_QUERY),
-    (b"gdesc", LetterCase::Exact, ENDS_QUERY),
-    (b"gexec", LetterCase::Exact, ENDS_QUERY),
-    (b"gset", LetterCase::Exact, ENDS_QUERY),
-    (b"getresults", LetterCase::Exact, ENDS_QUERY),
-    (b"crosstabview", LetterCase::Exact, ENDS_QUERY),
-    (b"watch", LetterCase::Exact, ENDS_QUERY),
-    (b"parse", LetterCase::Exact, ENDS_QUERY),
-    (b"close_prepared", LetterCase::Exact, ENDS_QUERY),
-    (b"sendpipeline", LetterCase::Exact, ENDS_QUERY),
-    (b"startpipeline", LetterCase::Exact, ENDS_QUERY),
-    (b"syncpipeline", LetterCase::Exact, ENDS_QUERY),
-    (b"endpipeline", LetterCase::Exact, ENDS_QUERY),
-    (b"flush", LetterCase::Exact, ENDS_QUERY),
-    (b"flushrequest", LetterCase::Exact, ENDS_QUERY),
-    (b"r", LetterCase::Exact, ENDS_QUERY),
-    (b"reset", LetterCase::Exact, ENDS_QUERY),
-    (b"o", LetterCase::Exact, TAKES_PIPE),
-    (b"out", LetterCase::Exact, TAKES_PIPE),
-    (b"w", LetterCase::Exact, TAKES_PIPE),
-    (b"write", LetterCase::Exact, TAKES_PIPE),
-    (b"!", LetterCase::Exact, READS_LINE),
-    (b"ef", LetterCase::Exact, READS_LINE),
-    (b"ev", LetterCase::Exact, READS_LINE),
-    (b"sf", LetterCase::Exact, READS_LINE),
-    (b"sf+", LetterCase::Exact, READS_LINE),
-    (b"sv", LetterCase::Exact, READS_LINE),
-    (b"sv+", LetterCase::Exact, READS_LINE),
-    (b"h", LetterCase::Exact, READS_LINE),
-    (b"help", LetterCase::Exact, READS_LINE),
-    (b"copy", LetterCase::Any, READS_LINE),
+    (b"g", LetterCase::Exact, Command::SendsQuery),
+    (b"gx", LetterCase::Exact, Command::SendsQuery),
+    (b"gdesc", LetterCase::Exact, Command::EndsQuery),
+    (b"gexec", LetterCase::Exact, Command::EndsQuery),
+    (b"gset", LetterCase::Exact, Command::EndsQuery),
+    (b"getresults", LetterCase::Exact, Command::EndsQuery),
+    (b"crosstabview", LetterCase::Exact, Command::EndsQuery),
+    (b"watch", LetterCase::Exact, Command::EndsQuery),
+    (b"parse", LetterCase::Exact, Command::EndsQuery),
+    (b"close_prepared", LetterCase::Exact, Command::EndsQuery),
+    (b"sendpipeline", LetterCase::Exact, Command::EndsQuery),
+    (b"startpipeline", LetterCase::Exact, Command::EndsQuery),
+    (b"syncpipeline", LetterCase::Exact, Command::EndsQuery),
+    (b"endpipeline", LetterCase::Exact, Command::EndsQuery),
+    (b"flush", LetterCase::Exact, Command::EndsQuery),
+    (b"flushrequest", LetterCase::Exact, Command::EndsQuery),
+    (b"r", LetterCase::Exact, Command::EndsQuery),
+    (b"reset", LetterCase::Exact, Command::EndsQuery),
+    (b"o", LetterCase::Exact, Command::TakesPipe),
+    (b"out", LetterCase::Exact, Command::TakesPipe),
+    (b"w", LetterCase::Exact, Command::TakesPipe),
+    (b"write", LetterCase::Exact, Command::TakesPipe),
+    (b"!", LetterCase::Exact, Command::ReadsLine),
+    (b"ef", LetterCase::Exact, Command::ReadsLine),
+    (b"ev", LetterCase::Exact, Command::ReadsLine),
+    (b"sf", LetterCase::Exact, Command::ReadsLine),
+    (b"sf+", LetterCase::Exact, Command::ReadsLine),
+    (b"sv", LetterCase::Exact, Command::ReadsLine),
+    (b"sv+", LetterCase::Exact, Command::ReadsLine),
+    (b"h", LetterCase::Exact, Command::ReadsLine),
+    (b"help", LetterCase::Exact, Command::ReadsLine),
+    (b"copy", LetterCase::Any, Command::ReadsLine),
 ];
 
 /// What a word does.
+#[tactic(auto, unfolding(crate::specs::Psql::meaning))]
 fn command_of<T: Text>(word: &T) -> Command
     ensures { result ≡ meaning (T.bytes word.now) }
 {
@@ -202,7 +189,7 @@ fn by_table<T: Text>(word: &T, words: &[(&[u8], LetterCase, Command)]) -> Comman
             return *command;
         }
     }
-    NOTHING
+    Command::Nothing
 }
 
 /// Whether a text is a word of these letters.

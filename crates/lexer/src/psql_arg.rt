@@ -4,7 +4,7 @@ ghost use Rattle.std.specs.Prelude.{◌≡◌, ◌+◌, true, if◌then◌else�
 ghost use Rattle.lexer.specs.Class.{hexadecimal};
 ghost use Rattle.lexer.specs.PsqlArg.{after, after_escape, after_outside, after_quoted, arguments, hex_value, is_parenthesis, last_after, last_quoted, octal, options, outside, separates, stops, with_digit};
 
-use crate::class::{Class, DigitClass, HexDigit, LineBlank};
+use crate::class::{Class, HexDigit, LineBlank};
 use crate::cursor::run_end;
 use text::Text;
 
@@ -69,19 +69,12 @@ impl ArgState {
             ArgState::Backquoted if byte == b'`' => ArgState::Outside,
             ArgState::DoubleQuoted | ArgState::Backquoted => self,
             ArgState::Escape => after_escape(byte),
-            ArgState::Quoted => after_quoted(byte),
-            ArgState::OneOctalDigit => after_digit(
-                is_octal_digit(byte),
-                ArgState::TwoOctalDigits,
-                byte,
-            ),
-            ArgState::TwoOctalDigits => after_digit(is_octal_digit(byte), ArgState::Quoted, byte),
-            ArgState::HexMark => after_digit(
-                HexDigit::has_digit(byte),
-                ArgState::OneHexDigit,
-                byte,
-            ),
-            ArgState::OneHexDigit => after_digit(HexDigit::has_digit(byte), ArgState::Quoted, byte),
+            ArgState::OneOctalDigit if is_octal_digit(byte) => ArgState::TwoOctalDigits,
+            ArgState::TwoOctalDigits if is_octal_digit(byte) => ArgState::Quoted,
+            ArgState::HexMark if HexDigit.has(byte) => ArgState::OneHexDigit,
+            ArgState::OneHexDigit if HexDigit.has(byte) => ArgState::Quoted,
+            // Within single quotes, where an escape, if any, has ended before the byte.
+            _ => after_quoted(byte),
         }
     }
 
@@ -101,10 +94,8 @@ impl ArgState {
             ArgState::OneOctalDigit | ArgState::TwoOctalDigits if is_octal_digit(byte) => {
                 with_digit(last, 8, byte - b'0')
             }
-            ArgState::HexMark if HexDigit::has_digit(byte) => Some(hex_value(byte)),
-            ArgState::OneHexDigit if HexDigit::has_digit(byte) => {
-                with_digit(last, 16, hex_value(byte))
-            }
+            ArgState::HexMark if HexDigit.has(byte) => Some(hex_value(byte)),
+            ArgState::OneHexDigit if HexDigit.has(byte) => with_digit(last, 16, hex_value(byte)),
             _ => last_quoted(last, byte),
         }
     }
@@ -143,13 +134,6 @@ fn after_escape(byte: u8) -> ArgState
         b'x' => ArgState::HexMark,
         _ => ArgState::Quoted,
     }
-}
-
-/// The escape goes on with one more digit, or has ended before the byte.
-fn after_digit(is_digit: bool, more: ArgState, byte: u8) -> ArgState
-    ensures { result ≡ (if is_digit then more else after_quoted byte) }
-{
-    if is_digit { more } else { after_quoted(byte) }
 }
 
 /// Within single quotes a quote and a backslash stand for nothing yet.

@@ -82,6 +82,7 @@ fn quoted_start(c: char) -> Start
 }
 
 /// What starts with a character whatever follows it.
+#[tactic(auto, unfolding(crate::specs::Start::plain_start))]
 fn plain_start(c: char) -> Start
     ensures { result ≡ plain_start c }
 {

@@ -5,7 +5,7 @@ use Rattle.lexer.specs.Cursor.{digit_met, digits}
 abbrev pub invariant-loop-byte : goal.invariant-loop-byte
 invariant-loop-byte g l =
     let xs = g.T.Text.bytes l.text in
-    let digit = g.C.DigitClass.digit in
+    let digit = g.C.Class.holds l.class in
     (l.end + digits digit (drop l.end xs) ≡ l.place + digits digit (drop l.place xs))
     × ((l.met || digit_met digit (drop l.end xs)) ≡ digit_met digit (drop l.place xs))
 

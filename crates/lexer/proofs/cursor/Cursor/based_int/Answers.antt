@@ -13,7 +13,7 @@ returns-then-not-has_digits g c =
     let first = c.eat_digits-has_digits.ensures.moved in
     let junk = c.eat_identifier.ensures in
     record {
-      kind = based_is c.args.base g.C.DigitClass.digit c.args.self.now.eaten (rest c.args.self.now) _ _ _ c.if-not-has_digits.ensures.met
+      kind = based_is c.args.base (g.C.Class.holds c.args.class.now) c.args.self.now.eaten (rest c.args.self.now) _ _ _ c.if-not-has_digits.ensures.met
           (c.pos_within_token-trailing_junk_start.ensures ∙ first.eaten)
           (eaten_then identifier junk (moved_rest first) c.pos_within_token-trailing_junk_start.ensures c.pos_within_token.ensures);
       moved = moved_then identifier first junk;
@@ -29,8 +29,8 @@ returns-else-not-has_digits g c =
     let xs = rest c.args.self.now in
     record {
       kind = ap (λ b. Int c.args.base (not b) c.pos_within_token-trailing_junk_start.result) c.if-not-has_digits.false
-          ∙ based_is c.args.base g.C.DigitClass.digit c.args.self.now.eaten xs true _
-          (c.pos_within_token-trailing_junk_start.result + identifier (drop (digits g.C.DigitClass.digit xs) xs)) c.if-not-has_digits.ensures.met
+          ∙ based_is c.args.base (g.C.Class.holds c.args.class.now) c.args.self.now.eaten xs true _
+          (c.pos_within_token-trailing_junk_start.result + identifier (drop (digits (g.C.Class.holds c.args.class.now) xs) xs)) c.if-not-has_digits.ensures.met
           (c.pos_within_token-trailing_junk_start.ensures ∙ first.eaten) refl;
       moved = moved_then identifier first junk;
     }

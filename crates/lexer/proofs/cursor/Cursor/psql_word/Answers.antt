@@ -5,7 +5,7 @@ use Rattle.lexer.proofs.cursor.Cursor.psql_word.Goals as goal
 use Rattle.lexer.specs.Class.{command_letter}
 use Rattle.lexer.specs.Cursor.{rest, run}
 use Rattle.lexer.specs.Piece.{part}
-use Rattle.lexer.specs.Psql.{before_pipe, command, followed, meaning, what_follows}
+use Rattle.lexer.specs.Psql.{before_pipe, command, ends_query, followed, meaning, what_follows}
 use Rattle.lexer.specs.declared.token.TokenKind.TheVariants.{PsqlCommand}
 
 pub invariant_of-word : goal.invariant_of-word
@@ -27,4 +27,4 @@ returns g c =
     ∙ ap (λ p. meaning (part p n (g.T.Text.bytes c.text.result.now))) c.place-place.ensures
     ∙ ap (λ t. meaning (part self.place n t)) (c.text.ensures ∙ c.eat_while.ensures.text) in
     let moves = moved_then (followed (before_pipe made) (what_follows made)) c.eat_while.ensures (moved_then (what_follows made) c.eat_before_pipe.ensures c.eat_what_follows.ensures) in
-    record { kind = ap (λ k. PsqlCommand k.ends_query) known; moved = moved_by (ap (λ k. followed (run command_letter) (followed (before_pipe k) (what_follows k)) xs) known) moves }
+    record { kind = ap PsqlCommand c.ends_query.ensures ∙ ap (λ k. PsqlCommand (ends_query k)) known; moved = moved_by (ap (λ k. followed (run command_letter) (followed (before_pipe k) (what_follows k)) xs) known) moves }
