@@ -22,6 +22,7 @@ fn read_input<R: Read + Drop>(heap: Global, input: R) -> io::Result<Vec<u8>>
     let mut bytes = Vec::new(heap);
     let mut bounded = input.take(ENOUGH);
     bounded.read_to_end(&mut bytes)?;
+    // Of a reader whose rest is not known, no more is kept than what the bound says.
     bytes.truncate(ENOUGH as usize);
     Ok(bytes)
 }

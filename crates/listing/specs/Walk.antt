@@ -18,18 +18,6 @@ pub record Walked : Type 0 where
   pub passed : ℕ
   pub solid : ℕ
 
-abbrev pub walked_of : ℕ → ℕ → ℕ → ℕ → ℕ → ℕ → ℕ → Walked
-walked_of place tokens ends rule start passed solid =
-    record {
-      place = place;
-      tokens = tokens;
-      ends = ends;
-      rule = rule;
-      start = start;
-      passed = passed;
-      solid = solid;
-    }
-
 -- before the first token
 abbrev pub at_front : Walked
 at_front =

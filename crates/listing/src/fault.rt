@@ -12,7 +12,7 @@ use text::{Fault, Layer, TextFault};
 pub const LONGEST_INPUT: u32 = 65536;
 
 /// Why the program refuses its input.
-#[derive(Clone, Copy, PartialEq, Debug)]
+#[derive(Clone, Copy, PartialEq, Eq, Debug)]
 pub enum ProgramFault {
     /// The input is no fit text.
     InText(TextFault),

@@ -83,6 +83,7 @@ fn list_tokens<T: Text>(heap: Global, text: &T) -> Result<String, AllocError>
     let size = text.len();
     let mut lines = String::new(heap);
     let mut walk = Walk::new();
+    // The walk keeps the place, with all that it counts.
     while let Some(token) = token_at(text, walk.place()) {
         list_token(&mut lines, &mut walk, token, size)?;
     }

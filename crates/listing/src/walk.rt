@@ -24,14 +24,15 @@ pub(crate) struct Walk {
 }
 
 impl Model for Walk {
-    ghost use Rattle.listing.specs.Walk.{Walked, Within, walked_of};
+    ghost use Rattle.listing.specs.Walk.{Walked};
 
     ghost Value = { Walked };
 
-    ghost view = { λ w. walked_of w.place w.tokens w.ends w.rule w.start w.passed w.solid };
+    ghost use Rattle.listing.specs.Walking.{Keeps, walked_of};
 
-    ghost invariant = { λ w.
-        Within (walked_of w.place w.tokens w.ends w.rule w.start w.passed w.solid) };
+    ghost view = { walked_of };
+
+    ghost invariant = { Keeps };
 }
 
 impl Walk {

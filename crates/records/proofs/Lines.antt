@@ -1,10 +1,8 @@
 -- One byte further in the search for a line's end and for an empty line.
-use Rattle.std.proofs.Common.{◌≡◌, ℕ, ◌+◌, ◌<◌, ◌≤◌, Bool, true, false, cond, ◌&&◌, eqb, List, length, get_or, drop, refl, ap, ◌∙◌}
-use Rattle.std.proofs.Common.{Some, None, nat_lt, arith}
-use Rattle.std.specs.Prelude.{if◌then◌else◌}
-use Rattle.std.specs.Option.{unwrap_or}
+use Rattle.std.proofs.Common.{◌≡◌, ℕ, ◌+◌, ◌<◌, ◌≤◌, Bool, true, false, cond, ◌&&◌, eqb, List, length, get_or, drop, ap, ◌∙◌}
+use Rattle.std.proofs.Common.{Some, None, arith}
 use Rattle.std.proofs.lemmas.Bool.Decides.{nat_tests}
-use Rattle.records.specs.Record.{lines_length}
+use Rattle.records.specs.Record.{lines_length, place_in}
 use Rattle.std.proofs.lemmas.List.{drop_more, drop_all}
 
 pub lines_length_at : (starts : Bool) (xs : List ℕ) (i : ℕ) → i < length xs
@@ -24,10 +22,9 @@ pub lines_length_past : (starts : Bool) (xs : List ℕ) (i : ℕ) → length xs 
 unfolding lines_length
 lines_length_past starts xs i h = ap (lines_length starts) (drop_all i xs h)
 
-pub and_false : (a : Bool) → (a && false) ≡ false
-and_false true = refl
-and_false false = refl
+-- where a byte stands, and where none does
+pub place_in-within : (bs : List ℕ) (m n : ℕ) → m ≡ n → n < length bs → Some n ≡ place_in bs m
+place_in-within bs m n e h = grind (arith, nat_tests)
 
--- the place found, or the length where none is
-pub unwrap_or-found : (place size : ℕ) → place ≤ size → unwrap_or (if nat_lt place size then Some place else None) size ≡ place
-unwrap_or-found place size h = grind (arith, nat_tests)
+pub place_in-past : (bs : List ℕ) (m : ℕ) → length bs ≤ m → None ≡ place_in bs m
+place_in-past bs m h = grind (arith, nat_tests)

@@ -12,6 +12,10 @@ unfoldable pub lines_length : Bool → List ℕ → ℕ
 lines_length starts [] = 0
 lines_length starts (b ∷ bs) = if starts && b == 10 then 0 else 1 + lines_length (b == 10) bs
 
+-- a place, if a byte stands there
+abbrev pub place_in : List ℕ → ℕ → Option ℕ
+place_in bs n = if nat_lt n (length bs) then Some n else None
+
 -- what stands before a place and what after it; none if the place is past the end
 abbrev pub split_at : ℕ → List ℕ → Option (List ℕ × List ℕ)
 split_at n bs = if nat_lt n (length bs) then Some (take n bs, drop (n + 1) bs) else None

@@ -1,8 +1,7 @@
 //! The records of a list, one after the other.
 
-ghost use Rattle.std.specs.Prelude.{◌≡◌, ◌<◌, ◌==◌, true, length, IfSome};
-ghost use Rattle.records.specs.Record.{first_record, lines_length, parts, split_at};
-ghost use Rattle.std.specs.List.{position_or_len};
+ghost use Rattle.std.specs.Prelude.{◌≡◌, ◌+◌, ◌<◌, true, length, take, drop, IfSome};
+ghost use Rattle.records.specs.Record.{first_record, line_length, lines_length, parts, place_in};
 ghost use Rattle.std.specs.Option.{option_map};
 
 /// A text and the listing that is expected of it, and the list after them.
@@ -20,8 +19,8 @@ pub fn next_record(list: &[u8]) -> Option<Record<'_>>
     ensures value { option_map parts result ≡ first_record list.now }
     ensures shorter { IfSome result (λ x. length x.rest.now < length list.now) }
 {
-    let (digits, after) = split(list, line_length(list))?;
-    let (listing, rest) = split(after, lines_length(after))?;
+    let (digits, after) = split(list, line_end(list)?);
+    let (listing, rest) = split(after, lines_end(after)?);
     Some(Record {
         digits,
         listing,
@@ -29,38 +28,33 @@ pub fn next_record(list: &[u8]) -> Option<Record<'_>>
     })
 }
 
-/// What stands before a place and what after it; none if the place is past the end.
-fn split(bytes: &[u8], place: usize) -> Option<(&[u8], &[u8])>
-    ensures value { option_map (λ p. (p.0.now, p.1.now)) result ≡ split_at place bytes.now }
-    ensures shorter { IfSome result (λ p. length p.1.now < length bytes.now) }
+/// What stands before a byte at a place, and what after it.
+fn split(bytes: &[u8], place: usize) -> (&[u8], &[u8])
+    requires { place < length bytes.now }
+    ensures before { result.0.now ≡ take place bytes.now }
+    ensures after { result.1.now ≡ drop (place + 1) bytes.now }
 {
-    if place < bytes.len() {
-        Some((&bytes[0..place], &bytes[place + 1..]))
-    } else {
-        None
-    }
+    (&bytes[0..place], &bytes[place + 1..])
 }
 
-/// How many bytes stand before the first line end.
-fn line_length(bytes: &[u8]) -> usize
-    ensures { result ≡ position_or_len (λ b. b == 10) bytes.now }
+/// Where the first line ends.
+fn line_end(bytes: &[u8]) -> Option<usize>
+    ensures { result ≡ place_in bytes.now (line_length bytes.now) }
 {
-    bytes
-        .iter()
-        .position(|byte| *byte == b'\n')
-        .unwrap_or(bytes.len())
+    bytes.iter().position(|byte| *byte == b'\n')
 }
 
-/// How many bytes stand before the first empty line.
-fn lines_length(bytes: &[u8]) -> usize
-    ensures { result ≡ lines_length true bytes.now }
+/// Where the first empty line is.
+fn lines_end(bytes: &[u8]) -> Option<usize>
+    ensures { result ≡ place_in bytes.now (lines_length true bytes.now) }
 {
+    // Whether a line starts goes on beside the place.
     let mut starts = true;
     for (place, byte) in bytes.iter().enumerate() {
         if starts && *byte == b'\n' {
-            return place;
+            return Some(place);
         }
         starts = *byte == b'\n';
     }
-    bytes.len()
+    None
 }

@@ -13,7 +13,7 @@ use lexer::token::{LiteralKind, Token, TokenKind};
 use std::marker::Model;
 
 /// Why a statement ends where it does.
-#[derive(Clone, Copy, PartialEq, Debug)]
+#[derive(Clone, Copy, PartialEq, Eq, Debug)]
 pub enum Cause {
     /// A semicolon outside parentheses.
     Semicolon = 1,
@@ -35,7 +35,7 @@ impl Cause {
 }
 
 /// A statement's tokens, how many of them are solid, and why it ends.
-#[derive(Clone, Copy, PartialEq, Debug)]
+#[derive(Clone, Copy, PartialEq, Eq, Debug)]
 pub struct Statement {
     pub tokens: usize,
     pub solid: usize,

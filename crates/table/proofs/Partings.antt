@@ -4,10 +4,11 @@ use Rattle.lexer.specs.declared.token.Token.{Token}
 use Rattle.std.proofs.lemmas.List.{drop_all, drop_more}
 use Rattle.std.proofs.lemmas.Bool.{both_ways, cases_Bool}
 use Rattle.std.specs.List.{slice_get}
-use Rattle.table.proofs.Readings.{slice_get_below, slice_get_value, some_none, some_value}
+use Rattle.table.proofs.Readings.{some_none, some_value}
 use Rattle.table.proofs.Equal.{same_decides}
 use Rattle.table.specs.Parting.{Tells, parting, parting_from}
 use Rattle.table.specs.Same.{same}
+use Rattle.std.proofs.lemmas.Option.{slice_get_within, get_or_from_slice_get}
 
 -- lists of which one or both are at their end
 module _ (ts us : List Token) (i : ℕ) (d : Token) where
@@ -28,7 +29,7 @@ module _ (ts us : List Token) (i : ℕ) (d t : Token) (e : slice_get ts i ≡ So
   next_entries : parting_from i (drop i ts) (drop i us) ≡ cond (same t (get_or us i d)) (parting_from (i + 1) (drop (i + 1) ts) (drop (i + 1) us)) (Some i)
   unfolding parting_from
   next_entries =
-      ap (λ l. parting_from i l (drop i us)) (drop_more ts i d (slice_get_below ts i t e) ∙ ap (λ x. x ∷ drop (i + 1) ts) (slice_get_value ts i t d e))
+      ap (λ l. parting_from i l (drop i us)) (drop_more ts i d (slice_get_within ts i t e) ∙ ap (λ x. x ∷ drop (i + 1) ts) (get_or_from_slice_get ts i t d e))
       ∙ ap (parting_from i (t ∷ drop (i + 1) ts)) (drop_more us i d below)
 
   pub parting_here : same t (get_or us i d) ≡ false → parting_from i (drop i ts) (drop i us) ≡ Some i

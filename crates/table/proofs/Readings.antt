@@ -1,13 +1,12 @@
 -- To read a text token by token is to go along its cut.
-use Rattle.std.proofs.Common.{◌≡◌, ℕ, zero, suc, ◌+◌, ◌<◌, ◌≤◌, List, [], ◌∷◌, ◌++◌, length, get_or, take, set, Some, None, Option, sym, refl, ap, ◌∙◌, inl, inr, arith}
+use Rattle.std.proofs.Common.{◌≡◌, ℕ, ◌+◌, ◌<◌, ◌≤◌, List, [], ◌∷◌, ◌++◌, length, take, set, Some, None, Option, sym, ap, ◌∙◌, arith}
 use Rattle.lexer.specs.Cut.{cut, lengths}
 use Rattle.lexer.specs.AllLaws.{AllLaws}
 use Rattle.lexer.specs.Laws.{border}
 use Rattle.lexer.specs.Lex.{token_at}
 use Rattle.lexer.specs.declared.token.Token.{Token}
 use Rattle.std.proofs.lemmas.List.{take_more, take_more_set}
-use Rattle.std.proofs.lemmas.Option.{slice_get-get_or, slice_get_past}
-use Rattle.std.proofs.lemmas.Bool.{cases_lt}
+use Rattle.std.proofs.lemmas.Option.{gets, slice_get_within, get_or_from_slice_get}
 use Rattle.std.specs.List.{slice_get}
 
 pub some_none : {X : Type 0} (o : Option X) (x : X) → o ≡ Some x → o ≡ None → ⊥
@@ -16,22 +15,10 @@ some_none o x p q = let z : ◌≡◌ {A = ℕ} 0 1 = cc in omega arith
 pub some_value : {X : Type 0} (o : Option X) (x y : X) → o ≡ Some x → o ≡ Some y → x ≡ y
 some_value o x y p q = cc
 
--- an item that a list has stands within it
-pub slice_get_below : {X : Type 0} (xs : List X) (i : ℕ) (x : X) → slice_get xs i ≡ Some x → i < length xs
-slice_get_below xs i x e = elim (cases_lt i (length xs)) [ inl h ↦ h | inr h ↦ absurd (some_none (slice_get xs i) x e (slice_get_past xs i h)) ]
-
-pub slice_get_value : {X : Type 0} (xs : List X) (i : ℕ) (x d : X) → slice_get xs i ≡ Some x → get_or xs i d ≡ x
-slice_get_value xs i x d e = some_value (slice_get xs i) (get_or xs i d) x (slice_get-get_or xs i d (slice_get_below xs i x e)) e
-
-pub nth_beyond : {X : Type 0} (xs : List X) (i : ℕ) → slice_get xs i ≡ None → length xs ≤ i
-nth_beyond [] i e = omega arith
-nth_beyond (x ∷ xs) zero e = absurd (some_none (Some x) x refl e)
-nth_beyond (x ∷ xs) (suc i) e = let beyond = nth_beyond xs i e in omega arith
-
 -- a front of one list, with one item more written after it, is a front of another
 pub take_written : {X : Type 0} (xs ys : List X) (i : ℕ) (y : X) → i < length xs → slice_get ys i ≡ Some y → take i xs ≡ take i ys → take (i + 1) (set xs i y) ≡ take (i + 1) ys
 take_written xs ys i y room e front =
-    take_more_set xs i y room ∙ ap (λ l. l ++ y ∷ []) front ∙ ap (λ z. take i ys ++ z ∷ []) (sym (slice_get_value ys i y y e)) ∙ sym (take_more ys i y (slice_get_below ys i y e))
+    take_more_set xs i y room ∙ ap (λ l. l ++ y ∷ []) front ∙ ap (λ z. take i ys ++ z ∷ []) (sym (get_or_from_slice_get ys i y y e)) ∙ sym (take_more ys i y (slice_get_within ys i y e))
 
 lengths_joined : (ts us : List Token) → lengths (ts ++ us) ≡ lengths ts + lengths us
 lengths_joined [] us = omega arith
@@ -39,7 +26,7 @@ lengths_joined (t ∷ ts) us = let more = lengths_joined ts us in omega arith
 
 lengths_more : (ts : List Token) (i : ℕ) (t : Token) → slice_get ts i ≡ Some t → lengths (take (i + 1) ts) ≡ lengths (take i ts) + t.len
 lengths_more ts i t e =
-    ap lengths (take_more ts i t (slice_get_below ts i t e) ∙ ap (λ u. take i ts ++ u ∷ []) (slice_get_value ts i t t e))
+    ap lengths (take_more ts i t (slice_get_within ts i t e) ∙ ap (λ u. take i ts ++ u ∷ []) (get_or_from_slice_get ts i t t e))
     ∙ lengths_joined (take i ts) (t ∷ [])
     ∙ (let one : t.len + 0 ≡ t.len = omega arith in ap (λ n. lengths (take i ts) + n) one)
 
@@ -58,7 +45,7 @@ module _ (laws : AllLaws) (bs : List ℕ) (place count : ℕ) (so : Reading bs p
   pub reading_more : (t : Token) → token_at bs place ≡ Some t → 0 < t.len → place + t.len ≤ length bs → Reading bs (place + t.len) (count + 1)
   reading_more t e some fits =
       let next = sym reading_next ∙ e in
-      let below = slice_get_below (cut bs) count t next in
+      let below = slice_get_within (cut bs) count t next in
       let on = lengths_more (cut bs) count t next in
       let few = so.few in
       record { few = omega arith; inside = fits; there = ap (λ n. n + t.len) so.there ∙ sym on; within = omega arith }
@@ -67,5 +54,6 @@ module _ (laws : AllLaws) (bs : List ℕ) (place count : ℕ) (so : Reading bs p
   pub reading_all : token_at bs place ≡ None → length (cut bs) ≡ count
   reading_all e =
       let within = so.within in
-      let beyond = nth_beyond (cut bs) count (sym reading_next ∙ e) in
+      let none = sym reading_next ∙ e in
+      let beyond : length (cut bs) ≤ count = grind (arith, gets) in
       omega arith

@@ -7,7 +7,7 @@ ghost use Rattle.std.specs.Prelude.{◌≡◌};
 use text::{Fault, Layer, TextFault};
 
 /// Why a table is not filled.
-#[derive(Clone, Copy, PartialEq, Debug)]
+#[derive(Clone, Copy, PartialEq, Eq, Debug)]
 pub enum TableFault {
     /// The text is unfit to be read.
     InText(TextFault),

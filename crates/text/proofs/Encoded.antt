@@ -1,6 +1,7 @@
 -- The table's sequences are the encodings of the scalar values, no more and no fewer.
 use Rattle.std.proofs.Common.{◌≡◌, ℕ, suc, ◌+◌, ◌/◌, ◌<◌, ◌≤◌, Bool, true, false, cond, ◌&&◌, ◌⊎◌, List, [], ◌∷◌, ◌++◌, length, take, IsUtf8, refl, subst, inl, inr, arith, rules}
 use lib.Utf8.{encode, scalar, next, scalar_cases}
+use Rattle.std.proofs.lemmas.Bool.{false≢true}
 use Rattle.std.proofs.lemmas.Bool.Decides.{nat_tests}
 use Rattle.std.proofs.str.Laws.{Scalar, Follows, both, order, one, two, three, four}
 use Rattle.std.proofs.str.Valid.{of_one, of_two, of_three, of_four}
@@ -90,7 +91,7 @@ utf8_4 x y z w bs s f g (inr h) (inr l) =
 
 -- a row that is matched is an encoding
 pub never : {X : Type 0} → false ≡ true → X
-never e = let z : ◌≡◌ {A = ℕ} 0 1 = cc in absurd (omega arith)
+never e = absurd (false≢true e)
 
 utf8_row_1 : (bs : List ℕ) → matches ((0x00, 0x7F) ∷ []) bs ≡ true → IsUtf8 (take 1 bs)
 utf8_row_1 [] e = never e

@@ -2,7 +2,8 @@
 use Rattle.std.proofs.Common.{◌≡◌, ℕ, suc, ◌+◌, ◌-◌, ◌≤◌, Bool, true, false, cond, ◌&&◌, ◌⊎◌, List, [], ◌∷◌, length, drop, Some, None, sym, refl, ap, ◌∙◌, inl, inr, add-one, arith}
 use Rattle.std.specs.List.{slice_get}
 use Rattle.std.proofs.lemmas.List.{drop_all}
-use Rattle.text.proofs.Places.{nth_drop, nth_beyond}
+use Rattle.std.proofs.lemmas.Option.{gets}
+use Rattle.text.proofs.Places.{nth_drop}
 use Rattle.std.proofs.lemmas.Bool.Decides.{nat_tests}
 use Rattle.text.specs.Utf8.{Row, table, holds, matches, matched, sequence, sound, sound_after}
 use Rattle.text.specs.Checker.{Progress, between, left_after, came_to, step, none_left}
@@ -155,7 +156,7 @@ module _ (p q : Progress) (xs : List ℕ) (i b : ℕ) (at : slice_get xs i ≡ S
 
 module _ (p : Progress) (xs : List ℕ) (i : ℕ) (end : slice_get xs i ≡ None) where
   at_end : drop i xs ≡ []
-  at_end = drop_all i xs (nth_beyond xs i end)
+  at_end = let past : length xs ≤ i = grind (arith, gets) in drop_all i xs past
 
   pub found_end : found p i (drop i xs) ≡ i - p.taken
   unfolding found

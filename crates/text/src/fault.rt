@@ -6,7 +6,7 @@ ghost use Rattle.text.specs.Faults.{text_fault};
 use crate::LONGEST;
 
 /// Why a text is unfit to be read.
-#[derive(Clone, Copy, PartialEq, Debug)]
+#[derive(Clone, Copy, PartialEq, Eq, Debug)]
 pub enum TextFault {
     /// It has more than `LONGEST` bytes.
     TooLong,
@@ -15,7 +15,7 @@ pub enum TextFault {
 }
 
 /// The part of the reader that checks for a fault.
-#[derive(Clone, Copy, PartialEq, Debug)]
+#[derive(Clone, Copy, PartialEq, Eq, Debug)]
 pub enum Layer {
     Text,
     Table,
@@ -23,7 +23,7 @@ pub enum Layer {
 }
 
 /// What a fault tells, whichever part met it. Users know faults by number.
-#[derive(Clone, Copy, PartialEq, Debug)]
+#[derive(Clone, Copy, PartialEq, Eq, Debug)]
 pub struct Fault {
     pub number: u8,
     pub place: u32,

@@ -3,8 +3,9 @@ use Rattle.lexer.specs.Cut.{cut}
 use Rattle.lexer.specs.declared.token.Token.{Token}
 use Rattle.lexer.specs.declared.token.TokenKind.TheVariants.{Unknown}
 use Rattle.table.proofs.Partings.{parting_both_end, parting_first_ends, parting_here, parting_later, parting_second_ends}
-use Rattle.table.proofs.Readings.{slice_get_below, reading_all, reading_more, reading_next}
+use Rattle.table.proofs.Readings.{reading_all, reading_more, reading_next}
 use Rattle.table.proofs.checker.parting.Goals as goal
+use Rattle.std.proofs.lemmas.Option.{slice_get_within}
 
 nothing : Token
 nothing = record { kind = Unknown; len = 0 }
@@ -47,7 +48,7 @@ returns g c =
     let met = c.in_ok-token_at.ensures in
     let inv = c.loop-index.invariant in
     let next = sym (reading_next met.laws bs c.loop-index.place i inv.0) ∙ sym met.value in
-    let below = slice_get_below (cut bs) i c.in_ok-token_at.field-0 next in
+    let below = slice_get_within (cut bs) i c.in_ok-token_at.field-0 next in
     sym (parting_second_ends (cut bs) c.args.tokens.now i nothing below (omega arith)) ∙ inv.1
 
 pub returns-in_err-token_at : goal.returns-in_err-token_at

@@ -1,6 +1,6 @@
 -- What was passed and the rest of the lines make the lines.
 use Rattle.std.proofs.Common.{◌≡◌, ◌+◌, true, drop}
-use Rattle.records.proofs.record.lines_length.Given as goal
+use Rattle.records.proofs.record.lines_end.Given as goal
 use Rattle.records.specs.Record.{lines_length}
 
 abbrev pub invariant-loop-place : goal.invariant-loop-place
