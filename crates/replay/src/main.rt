@@ -11,17 +11,22 @@ use records::{decode, next_record};
 use std::alloc::Global;
 use std::io::Read;
 
-/// The longest list of records, in bytes.
-const LONGEST_LIST: u64 = 1 << 36;
+/// The longest list of records, in reads of at most 4096 bytes.
+const LONGEST_LIST: usize = 16777216;
 
-fn read_list<R: Read + Drop>(heap: Global, input: R) -> anyhow::Result<Vec<u8>> {
-    let mut list = Vec::new(heap);
-    let mut bounded = input.take(LONGEST_LIST + 1);
-    bounded.read_to_end(&mut list)?;
-    if list.len() as u64 > LONGEST_LIST {
-        return Err(anyhow!("the list of records is too long"));
+fn read_list(rt: &HostRuntime) -> anyhow::Result<Vec<u8>> {
+    let mut list = Vec::new(rt.alloc());
+    let mut buffer = [0u8; 4096];
+    let mut input = rt.stdin();
+    // The limit counts reads, and `take` would count bytes.
+    for _ in 0..LONGEST_LIST {
+        let count = input.read(&mut buffer)?;
+        if count == 0 {
+            return Ok(list);
+        }
+        list.extend_from_slice(&buffer[0..count])?;
     }
-    Ok(list)
+    Err(anyhow!("the list of records is too long"))
 }
 
 /// The listing of a text in hexadecimal digits.
@@ -56,6 +61,6 @@ fn replay(rt: &HostRuntime, list: &[u8]) -> anyhow::Result<()> {
 }
 
 fn main(rt: HostRuntime) -> anyhow::Result<()> {
-    let list = read_list(rt.alloc(), rt.reader())?;
+    let list = read_list(&rt)?;
     replay(&rt, &list)
 }
