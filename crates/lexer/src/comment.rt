@@ -40,19 +40,19 @@ fn comment_end<T: Text>(text: &T, place: u32) -> Reach
     let mut end = place;
     // A turn takes one byte or two, and the place is the answer.
     while let Some(byte) = text.byte(end) {
-        match (byte, text.byte(end + 1)) {
-            (b'/', Some(b'*')) => {
-                depth += 1;
-                end += 2;
+        // No mark has a 0, which stands for no byte here: two bytes are compared at once, without a choice on the first.
+        let next = text.byte(end + 1).unwrap_or(0);
+        if byte == b'/' && next == b'*' {
+            depth += 1;
+            end += 2;
+        } else if byte == b'*' && next == b'/' {
+            depth -= 1;
+            end += 2;
+            if depth == 0 {
+                break;
             }
-            (b'*', Some(b'/')) => {
-                depth -= 1;
-                end += 2;
-                if depth == 0 {
-                    break;
-                }
-            }
-            _ => end += 1,
+        } else {
+            end += 1;
         }
     }
     Reach {
