@@ -1,4 +1,5 @@
 -- What a walk over tokens has counted, as its fields hold it.
+use Rattle.statement.specs.Depth.{depth}
 use Rattle.listing.specs.Walk.{Walked, Within}
 use Rattle.listing.specs.declared.walk.Walk.TheInside.{Inside}
 
@@ -8,7 +9,7 @@ walked_of w =
       place = w.place;
       tokens = w.tokens;
       ends = w.ends;
-      rule = w.rule;
+      rule = depth w.rule;
       start = w.start;
       passed = w.passed;
       solid = w.solid;

@@ -1,16 +1,16 @@
 //! What ends a statement.
 #![tactic(auto)]
 
-ghost use Rattle.std.specs.Prelude.{◌≡◌, ℕ, take};
+ghost use Rattle.std.specs.Prelude.{◌≡◌, take};
 ghost use Rattle.statement.specs.Causes.{cause_number};
 ghost use Rattle.statement.specs.EndLaws.{EndsStand};
+ghost use Rattle.statement.specs.Depth.{depth};
 ghost use Rattle.statement.specs.Ends.{solid, unterminated, first_state, next_state, own_end, last_cause, end_after};
 ghost use Rattle.statement.specs.Laws.{DepthCounts, SemicolonEnds, Shared};
 ghost use Rattle.statement.specs.Statements.{state_after, statements, tokens_of};
 ghost use Rattle.std.specs.List.{slice_get};
 
 use lexer::token::{LiteralKind, Token, TokenKind};
-use std::marker::Model;
 
 /// Why a statement ends where it does.
 #[derive(Clone, Copy, PartialEq, Eq, Debug)]
@@ -93,19 +93,11 @@ pub struct Ends {
     depth: u32,
 }
 
-impl Model for Ends {
-    ghost Value = { ℕ };
-
-    ghost view = { λ ends. ends.depth };
-
-    ghost inverse = { λ depth. record { depth = depth } };
-}
-
 impl Ends {
     /// The rule before the first token. From here its state counts the parentheses left open, and a `;` ends a
     /// statement exactly where there are none. In a text, no end stands inside a token.
     pub fn new() -> Ends
-        ensures state { result ≡ first_state }
+        ensures state { depth result ≡ first_state }
         ensures counts { DepthCounts }
         ensures semicolon { SemicolonEnds }
         ensures places { EndsStand }
@@ -115,8 +107,8 @@ impl Ends {
 
     /// Passes a token, and answers the end that stands after it whatever follows.
     pub fn pass(&mut self, token: Token) -> Option<Cause>
-        ensures end { result ≡ own_end self.old token }
-        ensures state { self.new ≡ next_state self.old token }
+        ensures end { result ≡ own_end (depth self.old) token }
+        ensures state { depth self.new ≡ next_state (depth self.old) token }
     {
         match token.kind {
             TokenKind::OpenParen => {
@@ -138,8 +130,8 @@ impl Ends {
 
     /// Passes a token, and answers the end that stands after it. `last` says whether it is the text's last.
     pub fn end_after(&mut self, token: Token, last: bool) -> Option<Cause>
-        ensures end { result ≡ end_after self.old token last }
-        ensures state { self.new ≡ next_state self.old token }
+        ensures end { result ≡ end_after (depth self.old) token last }
+        ensures state { depth self.new ≡ next_state (depth self.old) token }
     {
         match self.pass(token) {
             None if last => Some(last_cause(token)),
@@ -150,8 +142,8 @@ impl Ends {
     /// Passes tokens up to the next end, and answers the statement that they make, or `None` if there are
     /// no tokens. The last of the tokens counts as the text's last.
     pub fn next_statement(&mut self, tokens: &[Token]) -> Option<Statement>
-        ensures first { result ≡ slice_get (statements self.old tokens.now) 0 }
-        ensures state { self.new ≡ state_after self.old (take (tokens_of result) tokens.now) }
+        ensures first { result ≡ slice_get (statements (depth self.old) tokens.now) 0 }
+        ensures state { depth self.new ≡ state_after (depth self.old) (take (tokens_of result) tokens.now) }
         ensures shared { Shared }
     {
         let mut solid = 0;
