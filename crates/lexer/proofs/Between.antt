@@ -1,5 +1,5 @@
 -- In well-formed UTF-8 every border falls between two characters.
-use Rattle.std.proofs.Common.{◌≡◌, ℕ, zero, suc, ◌+◌, ◌<◌, ◌≤◌, Bool, true, false, List, [], ◌∷◌, length, take, drop, IsUtf8, sym, refl, ap, subst, inl, inr, arith}
+use Rattle.std.proofs.Common.{◌≡◌, ℕ, zero, suc, ◌+◌, ◌<◌, ◌≤◌, Bool, true, false, eqb, List, [], ◌∷◌, length, take, drop, IsUtf8, sym, refl, ap, subst, inl, inr, arith}
 use Rattle.lexer.proofs.Beside.{Beside, after_any, blank_ascii, blanks_beside, comment_beside, dollar_beside, one_beside, psql_beside, quoted_beside}
 use Rattle.lexer.proofs.Cuts.{cut_drop, cut_token}
 use Rattle.lexer.proofs.Starts.{Begins, begun}
@@ -11,15 +11,43 @@ use Rattle.lexer.specs.Comment.{comment}
 use Rattle.lexer.specs.Cursor.{peek, run}
 use Rattle.lexer.specs.Cut.{cut_after, lengths}
 use Rattle.lexer.specs.Lex.{lex, marked, rest_len, start_with}
+use Rattle.lexer.specs.Number.{either_case}
 use Rattle.lexer.specs.Quoted.{has_escapes, quoted}
 use Rattle.lexer.specs.ReachLaws.{BetweenCharacters}
+use Rattle.lexer.specs.Start.{plain_start, start_of}
 use Rattle.lexer.specs.declared.start.Start.TheVariants.{Blanks, Line, Block, Prefixed, UnicodeStr, UnicodeIdent, Word, Digit, Point, TwoDots, Dollar, Command, Quote, DoubleQuote, Symbol}
 use Rattle.lexer.specs.declared.start.Start.{Start}
 use Rattle.lexer.specs.declared.token.Token.{Token}
-use Rattle.std.proofs.lemmas.Bool.{cases_Bool, cases_lt}
+use Rattle.std.proofs.lemmas.Bool.{cases_Bool, cases_lt, cond_both}
+use Rattle.std.proofs.lemmas.Bool.Decides.{nat_tests}
 use Rattle.std.proofs.lemmas.Str.{IsCharBoundary-after_ascii, IsCharBoundary-before_ascii, IsCharBoundary-end, IsCharBoundary-from_rest, IsCharBoundary-past_char, IsCharBoundary-start, IsUtf8-drop}
 use Rattle.std.specs.Str.{IsCharBoundary}
 use lib.Utf8.{encode}
+
+-- a character beyond ASCII starts a word
+module _ (b : ℕ) (high : 128 ≤ b) where
+  far : (k : ℕ) → k < 128 → eqb b k ≡ false
+  far k low = grind (arith, nat_tests)
+
+  no_letter : (k : ℕ) → k < 128 → either_case k b ≡ false
+  no_letter k low = grind (arith, nat_tests)
+
+  plain_word : plain_start b ≡ Word
+  unfolding plain_start
+  plain_word = grind (arith, nat_tests)
+
+  beyond_word : (next after : ℕ) → start_of b next after ≡ Word
+  beyond_word next after =
+      let slash : eqb b 47 ≡ false = far 47 (omega arith) in
+      let minus : eqb b 45 ≡ false = far 45 (omega arith) in
+      let point : eqb b 46 ≡ false = far 46 (omega arith) in
+      let u : either_case 117 b ≡ false = no_letter 117 (omega arith) in
+      let e : either_case 101 b ≡ false = no_letter 101 (omega arith) in
+      let bit : either_case 98 b ≡ false = no_letter 98 (omega arith) in
+      let x : either_case 120 b ≡ false = no_letter 120 (omega arith) in
+      let n : either_case 110 b ≡ false = no_letter 110 (omega arith) in
+      simp (slash, minus, point, u, e, bit, x, n, plain_word)
+      (cond_both (eqb next 39) Word Word (λ s. s ≡ Word) (λ _. refl) (λ _. refl))
 
 -- a string or a quoted name after an opener of `n` bytes more
 opened_beside : (n q : ℕ) (e : Bool) → q < 128 → (b : ℕ) (xs : List ℕ) → Beside b xs (n + quoted q e (drop n xs))

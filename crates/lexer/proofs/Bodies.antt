@@ -45,7 +45,7 @@ module _ (q : ℕ) (e : Bool) where
   over_close x (y ∷ ys) is alone = let other = ne_eqb y q (λ s. eqb-false q y alone (sym s)) in simp (is, other)
 
   -- a body ends where a quote closes it
-  body_closes : (q ≡ 92 → ⊥) → {body : List ℕ} → Body q e body → (rest : List ℕ) → leads (eqb q) rest ≡ false → quoted_extent q e (body ++ (q ∷ rest)) ≡ record { len = length body + 1; closed = true }
+  pub body_closes : (q ≡ 92 → ⊥) → {body : List ℕ} → Body q e body → (rest : List ℕ) → leads (eqb q) rest ≡ false → quoted_extent q e (body ++ (q ∷ rest)) ≡ record { len = length body + 1; closed = true }
   body_closes apart empty rest alone = over_close q rest (eq-eqb q q refl) alone
   body_closes apart (plain b xs other bare more) rest alone =
       over_plain b (xs ++ (q ∷ rest)) (ne_eqb b q other) (unescaped b bare) ∙ rw (body_closes apart more rest alone) (same (omega arith))

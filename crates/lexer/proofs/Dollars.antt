@@ -28,11 +28,11 @@ begins_short (d ∷ ds) [] h = refl
 begins_short (d ∷ ds) (x ∷ xs) h = and_right (eqb d x) (begins ds xs) (begins_short ds xs (omega arith))
 
 module _ (ds xs : List ℕ) where
-  begins_more : (i j : ℕ) → i < length ds → j < length xs → begins (drop i ds) (drop j xs) ≡ (eqb (get_or ds i 0) (get_or xs j 0) && begins (drop (i + 1) ds) (drop (j + 1) xs))
+  pub begins_more : (i j : ℕ) → i < length ds → j < length xs → begins (drop i ds) (drop j xs) ≡ (eqb (get_or ds i 0) (get_or xs j 0) && begins (drop (i + 1) ds) (drop (j + 1) xs))
   unfolding begins
   begins_more i j p q = ap (λ l. begins l (drop j xs)) (drop_more ds i 0 p) ∙ ap (begins (get_or ds i 0 ∷ drop (i + 1) ds)) (drop_more xs j 0 q)
 
-  begins_all : (i j : ℕ) → length ds ≤ i → begins (drop i ds) (drop j xs) ≡ true
+  pub begins_all : (i j : ℕ) → length ds ≤ i → begins (drop i ds) (drop j xs) ≡ true
   unfolding begins
   begins_all i j p = ap (λ l. begins l (drop j xs)) (drop_all i ds p)
 

@@ -19,7 +19,7 @@ module _ (digit : ℕ → Bool) where
   unfolding digits
   digits_more x xs e = grind arith
 
-  digits_end : (x : ℕ) (xs : List ℕ) → (digit x || (eqb x 95 && leads digit xs)) ≡ false → digits digit (x ∷ xs) ≡ 0
+  pub digits_end : (x : ℕ) (xs : List ℕ) → (digit x || (eqb x 95 && leads digit xs)) ≡ false → digits digit (x ∷ xs) ≡ 0
   unfolding digits
   digits_end x xs e = grind arith
 

@@ -1,11 +1,13 @@
 -- Digits, the letters of numbers and the bytes that start no name: what the tests on numbers say of them.
-use Rattle.std.proofs.Common.{◌≡◌, ℕ, true, false, eqb, arith}
+use Rattle.std.proofs.Common.{◌≡◌, ℕ, ◌+◌, ◌-◌, ◌≤◌, true, false, eqb, sym, ap, ◌∙◌, inl, inr, arith, eqb-true}
 use Rattle.lexer.specs.Class.{decimal, hexadecimal, ident_start}
 use Rattle.lexer.specs.Number.{base_of, either_case, exponent_mark, sign}
 use Rattle.lexer.specs.Start.{plain_start, start_of}
 use Rattle.lexer.specs.declared.start.Start.TheVariants.{Digit, Point}
 use Rattle.lexer.specs.declared.token.Base.TheVariants.{Binary, Octal, Decimal, Hexadecimal}
+use Rattle.std.proofs.lemmas.Bool.{cases_Bool}
 use Rattle.std.proofs.lemmas.Bool.Decides.{nat_tests}
+use borrow.Author.Tests.{clash}
 
 -- bytes that are no letter of a prefix
 abbrev pub Unlettered : ℕ → Type 0
@@ -42,6 +44,23 @@ underscore_unlettered b u = grind (arith, nat_tests)
 
 -- a byte that starts no name
 module _ (b : ℕ) (i : ident_start b ≡ false) where
+  pub other : (l : ℕ) → ident_start l ≡ true → eqb b l ≡ false
+  other l s =
+      elim (cases_Bool (eqb b l)) [
+        | inl e ↦ absurd (clash (sym i ∙ ap ident_start (eqb-true b l e) ∙ s))
+        | inr e ↦ e
+      ]
+
+  pub no_letter : (l : ℕ) → 32 ≤ l → ident_start l ≡ true → ident_start (l - 32) ≡ true → either_case l b ≡ false
+  no_letter l h s u =
+      elim (cases_Bool (eqb (b + 32) l)) [
+        | inl e ↦
+            let up = eqb-true (b + 32) l e in
+            let is : b ≡ l - 32 = omega arith in
+            absurd (clash (sym i ∙ ap ident_start is ∙ u))
+        | inr e ↦ simp (other l s, e)
+      ]
+
   pub no_exponent_mark : exponent_mark b ≡ false
   no_exponent_mark = grind (arith, nat_tests)
 

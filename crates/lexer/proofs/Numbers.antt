@@ -68,7 +68,7 @@ prefixed Decimal = false
 prefixed other = true
 
 -- a prefix has a letter
-prefix_letter : (first : ℕ) (xs : List ℕ) (base : Base) → base ≡ base_of first (peek 0 xs) → prefixed base ≡ true
+pub prefix_letter : (first : ℕ) (xs : List ℕ) (base : Base) → base ≡ base_of first (peek 0 xs) → prefixed base ≡ true
     → next_len xs ≡ 1
 prefix_letter first [] base e h = grind arith
 prefix_letter first (x ∷ xs) base e h = refl

@@ -16,7 +16,7 @@ none_before : (n : ℕ) → n ≡ 0 + n
 none_before n = omega arith
 
 -- reading options goes on after the blanks at the front
-options_blanks : (xs : List ℕ) → options Outside None xs ≡ run line_blank xs + options Outside None (drop (run line_blank xs) xs)
+pub options_blanks : (xs : List ℕ) → options Outside None xs ≡ run line_blank xs + options Outside None (drop (run line_blank xs) xs)
 unfolding options run
 options_blanks [] = refl
 options_blanks (x ∷ xs) =

@@ -12,7 +12,7 @@ module _ (class : ℕ → Bool) where
   unfolding every
   longest_more x bytes next c l = record { all = and_from (class x) (every class bytes) c l.all; ends = l.ends }
 
-  run_more : (x : ℕ) (xs : List ℕ) → class x ≡ true → run class (x ∷ xs) ≡ suc (run class xs)
+  pub run_more : (x : ℕ) (xs : List ℕ) → class x ≡ true → run class (x ∷ xs) ≡ suc (run class xs)
   unfolding run
   run_more x xs c = simp c (omega arith)
 
@@ -45,7 +45,7 @@ module _ (class : ℕ → Bool) where
   longest_from x xs c = longest_more x (take (run class xs) xs) (drop (run class xs) xs) c (run_longest xs)
 
 -- a byte that starts a name goes on with one
-starts_goes_on : (x : ℕ) → ident_start x ≡ true → ident_cont x ≡ true
+pub starts_goes_on : (x : ℕ) → ident_start x ≡ true → ident_cont x ≡ true
 starts_goes_on x s = grind arith
 
 pub name_of : (x : ℕ) (xs : List ℕ) → ident_start x ≡ true

@@ -47,6 +47,9 @@ ident_cont_takes b h = grind (arith, nat_tests)
 pub ident_start_takes : Takes ident_start
 ident_start_takes b h = grind (arith, nat_tests)
 
+command_letter_takes : Takes command_letter
+command_letter_takes b h = grind (arith, nat_tests)
+
 line_takes : Takes (all_but 10 13)
 line_takes b h = grind (arith, nat_tests)
 

@@ -1,7 +1,6 @@
 -- The arguments of psql commands: how a reader of them goes from byte to byte, and where they end.
 use Rattle.std.specs.Prelude.{ℕ, ◌+◌, ◌-◌, ◌*◌, ◌%◌, ◌==◌, nat_lt, Bool, true, false, if◌then◌else◌}
 use Rattle.std.specs.Prelude.{◌&&◌, ◌||◌, List, [], ◌∷◌, Option, Some, None}
-use Rattle.std.specs.Option.{option_map}
 use Rattle.lexer.specs.Byte.{byte}
 use Rattle.lexer.specs.Class.{backslash, between, decimal, hexadecimal, line_blank, line_end}
 use Rattle.lexer.specs.Cursor.{run}
@@ -79,9 +78,10 @@ after Backquoted b = if b == byte "`" then Outside else Backquoted
 abbrev pub last_quoted : Option ℕ → ℕ → Option ℕ
 last_quoted last b = if b == byte "'" then last else if backslash b then last else Some b
 
--- a character so far, with one more digit in a base
+-- a character so far, with one more digit in a base; where there is none, the digit is the first
 abbrev pub with_digit : Option ℕ → ℕ → ℕ → Option ℕ
-with_digit last base digit = option_map (λ so_far. (so_far * base + digit) % 256) last
+with_digit None base digit = Some digit
+with_digit (Some so_far) base digit = Some ((so_far * base + digit) % 256)
 
 -- the last character of the argument's value after one more byte: digits of an escape count as the
 -- character that they stand for so far, other escapes as their letter (a control character is no

@@ -146,11 +146,15 @@ fn last_quoted(last: Option<u8>, byte: u8) -> Option<u8>
     }
 }
 
-/// The character that an escape stands for so far, with one more digit in a base.
+/// The character that an escape stands for so far, with one more digit in a base. Where there is
+/// none, the digit is the first.
 fn with_digit(last: Option<u8>, base: u8, digit: u8) -> Option<u8>
     ensures { result ≡ with_digit last base digit }
 {
-    last.map(|so_far| so_far.wrapping_mul(base).wrapping_add(digit))
+    match last {
+        Some(so_far) => Some(so_far.wrapping_mul(base).wrapping_add(digit)),
+        None => Some(digit),
+    }
 }
 
 /// Whether the last character is a closing parenthesis.

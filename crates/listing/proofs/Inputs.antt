@@ -20,7 +20,7 @@ pub admitted_short : (bs : List ℕ) → length bs ≤ longest_input → admitte
 admitted_short bs h = ap (λ b. if b then Err InputTooLong else in_text (checked bs)) (le-ltb longest_input (length bs) h)
 
 -- what is admitted is not too long
-short_from_admitted : (bs : List ℕ) → admitted bs ≡ Ok tt → length bs ≤ longest_input
+pub short_from_admitted : (bs : List ℕ) → admitted bs ≡ Ok tt → length bs ≤ longest_input
 short_from_admitted bs e =
     (elim (ltb longest_input (length bs)) as (λ b. ltb longest_input (length bs) ≡ b → (if b then Err InputTooLong else in_text (checked bs)) ≡ Ok tt → length bs ≤ longest_input) [
       | true ↦ λ q x. let z : ◌≡◌ {A = ℕ} 0 1 = cc in absurd (omega arith)

@@ -1,13 +1,25 @@
 -- What a walk writes, one token more.
 use Rattle.std.proofs.Common.{◌≡◌, ℕ, ◌+◌, ◌<◌, List, [], ◌∷◌, ◌++◌, Some, None, Option, sym, refl, ap, ◌∙◌, append_assoc, append-nil, arith}
+use Rattle.std.specs.Option.{option_map}
 use Rattle.lexer.specs.declared.token.Token.{Token}
 use Rattle.statement.specs.declared.Cause.{Cause}
-use Rattle.listing.specs.Lines.{total_bytes}
-use Rattle.listing.specs.Walk.{Walked, at_front, end_there, past, lines_of_token, total_line}
+use Rattle.listing.specs.declared.lines.EndLine.{EndLine}
+use Rattle.listing.specs.Lines.{end_bytes, total_bytes}
+use Rattle.listing.specs.Walk.{Walked, at_front, end_line, end_there, past, lines_of_end, lines_of_token, total_line}
 use Rattle.lexer.proofs.Readings.{Reads}
 use Rattle.lexer.specs.Cut.{lengths}
 use Rattle.lexer.specs.Laws.{NoneEmpty}
 use Rattle.lexer.specs.Lex.{token_at}
+
+-- one piece of writing after another
+pub written_twice : (before mid after a b c : List ℕ) → mid ≡ before ++ a → after ≡ mid ++ b → b ≡ c → after ≡ before ++ (a ++ c)
+written_twice before mid after a b c first second same =
+    second ∙ ap (λ l. l ++ b) first ∙ append_assoc before a b ∙ ap (λ l. before ++ (a ++ l)) same
+
+-- the line of an end, where a statement ends
+pub lines_of_end_some : (w : Walked) (t : Token) (end : Option Cause) (l : EndLine) → option_map (end_line w t) end ≡ Some l → lines_of_end w t end ≡ end_bytes l
+lines_of_end_some w t None l e = let z : ◌≡◌ {A = ℕ} 0 1 = cc in absurd (omega arith)
+lines_of_end_some w t (Some cause) l e = let same : end_line w t cause ≡ l = cc in ap end_bytes same
 
 -- a walk over a list of tokens, and the lines that it writes before the total
 abbrev pub walked : ℕ → Walked → List Token → Walked
@@ -59,6 +71,9 @@ pub record Walking (bs : List ℕ) (size : ℕ) (w : Walked) (out : List ℕ) : 
   pub none_empty : NoneEmpty tokens
   pub walk : w ≡ walked size at_front tokens
   pub lines : out ≡ lines_on size at_front tokens
+
+pub walking_none : (bs : List ℕ) (size : ℕ) → Walking bs size at_front []
+walking_none bs size = record { tokens = []; reads = tt; none_empty = tt; walk = refl; lines = refl }
 
 module _ (bs : List ℕ) (size : ℕ) (w : Walked) (out : List ℕ) (so : Walking bs size w out) where
   passed : w.place ≡ lengths so.tokens

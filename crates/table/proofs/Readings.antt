@@ -1,5 +1,5 @@
 -- To read a text token by token is to go along its cut.
-use Rattle.std.proofs.Common.{◌≡◌, ℕ, ◌+◌, ◌<◌, ◌≤◌, List, [], ◌∷◌, ◌++◌, length, take, set, Some, None, Option, sym, ap, ◌∙◌, arith}
+use Rattle.std.proofs.Common.{◌≡◌, ℕ, ◌+◌, ◌<◌, ◌≤◌, List, [], ◌∷◌, ◌++◌, length, take, set, Some, None, Option, sym, refl, ap, ◌∙◌, arith}
 use Rattle.lexer.specs.Cut.{cut, lengths}
 use Rattle.lexer.specs.AllLaws.{AllLaws}
 use Rattle.lexer.specs.Laws.{border}
@@ -36,6 +36,9 @@ pub record Reading (bs : List ℕ) (place count : ℕ) : Type 0 where
   pub inside : place ≤ length bs
   pub there : place ≡ border bs count
   pub within : count ≤ length (cut bs)
+
+pub reading_start : (bs : List ℕ) → Reading bs 0 0
+reading_start bs = record { few = omega arith; inside = omega arith; there = refl; within = omega arith }
 
 module _ (laws : AllLaws) (bs : List ℕ) (place count : ℕ) (so : Reading bs place count) where
   -- the token at its place is the next of the cut
