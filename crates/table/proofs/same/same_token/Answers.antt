@@ -1,8 +1,10 @@
-use Rattle.std.proofs.Common.{subst, IsTrue, ◌↔◌, ◌≡◌, sym}
+use Rattle.std.proofs.Common.{subst, IsTrue, ◌↔◌, ◌≡◌, sym, arith}
 use Rattle.table.proofs.Equal.{same_decides}
 use Rattle.table.specs.Same.{same}
 use Rattle.table.proofs.same.same_token.Goals as goal
 
 pub returns : goal.returns
 unfolding same
-returns c = record { value = c.eq.ensures; decides = subst (λ r. IsTrue r ↔ (c.args.a ≡ c.args.b)) (sym c.eq.ensures) (same_decides c.args.a c.args.b) }
+returns c =
+    let value : c.eq.result ≡ same c.args.a c.args.b = grind arith in
+    record { value = value; decides = subst (λ r. IsTrue r ↔ (c.args.a ≡ c.args.b)) (sym value) (same_decides c.args.a c.args.b) }
