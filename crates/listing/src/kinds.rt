@@ -1,36 +1,36 @@
 //! The kinds of tokens as a line shows them.
 
 ghost use Rattle.listing.specs.Kinds.{kind_bytes, literal_bytes};
-ghost use Rattle.std.specs.Prelude.{◌≡◌, if◌then◌else◌, Some};
+ghost use Rattle.std.specs.Prelude.{◌≡◌, decimal, if◌then◌else◌, Some};
 
 use lexer::token::{LiteralKind, TokenKind};
 use std::fmt;
 
 /// A token's kind: its name, and its fields in the order of their declaration, yes as 1, no as 0 and a number that is
-/// not there as `-`. A literal goes by its own kind.
+/// not there as `-`. A literal goes by its own kind. It is lent: to copy it takes as long as to write it.
 #[derive(Clone, Copy)]
-pub(crate) struct Shown {
-    pub(crate) kind: TokenKind,
+pub(crate) struct Shown<'a> {
+    pub(crate) kind: &'a TokenKind,
 }
 
 /// A literal's kind, as `Shown`.
 #[derive(Clone, Copy)]
-struct ShownLiteral {
-    kind: LiteralKind,
+struct ShownLiteral<'a> {
+    kind: &'a LiteralKind,
 }
 
 /// Yes as 1, no as 0.
-fn one_if(flag: bool) -> u8
-    ensures { result ≡ (if flag then 1 else 0) }
+fn one_if(flag: bool) -> &'static str
+    ensures { result.now ≡ decimal (if flag then 1 else 0) }
 {
-    u8::from(flag)
+    if flag { "1" } else { "0" }
 }
 
-impl fmt::Display for ShownLiteral {
-    ghost output = { λ x. Some (literal_bytes x.kind) };
+impl<'a> fmt::Display for ShownLiteral<'a> {
+    ghost output = { λ x. Some (literal_bytes x.kind.now) };
 
     fn fmt<W: fmt::Write>(&self, f: &mut fmt::Formatter<W>) -> fmt::Result {
-        match self.kind {
+        match *self.kind {
             LiteralKind::Int {
                 base,
                 empty_int,
@@ -72,13 +72,13 @@ impl fmt::Display for ShownLiteral {
     }
 }
 
-impl fmt::Display for Shown {
-    ghost output = { λ x. Some (kind_bytes x.kind) };
+impl<'a> fmt::Display for Shown<'a> {
+    ghost output = { λ x. Some (kind_bytes x.kind.now) };
 
     fn fmt<W: fmt::Write>(&self, f: &mut fmt::Formatter<W>) -> fmt::Result {
-        match self.kind {
+        match *self.kind {
             TokenKind::Unknown => f.write_str("Unknown"),
-            TokenKind::Literal { kind } => write!(f, "{}", ShownLiteral { kind }),
+            TokenKind::Literal { ref kind } => ShownLiteral { kind }.fmt(f),
             TokenKind::Whitespace => f.write_str("Whitespace"),
             TokenKind::Ident => f.write_str("Ident"),
             TokenKind::PsqlCommand { ends_query } => write!(
@@ -127,7 +127,13 @@ impl fmt::Display for Shown {
             TokenKind::QuotedIdent {
                 terminated,
                 uescape,
-            } => write!(f, "QuotedIdent {} {}", one_if(terminated), one_if(uescape)),
+            } => {
+                // Piece by piece: of all kinds it has two flags, and a `write!` within the line's own takes longer.
+                f.write_str("QuotedIdent ")?;
+                f.write_str(one_if(terminated))?;
+                f.write_str(" ")?;
+                f.write_str(one_if(uescape))
+            }
         }
     }
 }

@@ -22,7 +22,7 @@ impl fmt::Display for TokenLine {
         let place = self.place;
         let len = self.token.len;
         let kind = Shown {
-            kind: self.token.kind,
+            kind: &self.token.kind,
         };
         writeln!(f, "token {place} {len} {kind}")
     }
