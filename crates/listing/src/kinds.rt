@@ -1,7 +1,7 @@
 //! The kinds of tokens as a line shows them.
 
 ghost use Rattle.listing.specs.Kinds.{kind_bytes, literal_bytes};
-ghost use Rattle.std.specs.Prelude.{◌≡◌, decimal, if◌then◌else◌, Some};
+ghost use Rattle.std.specs.Prelude.{◌≡◌, codes, if◌then◌else◌, Some};
 
 use lexer::token::{LiteralKind, TokenKind};
 use std::fmt;
@@ -21,7 +21,7 @@ struct ShownLiteral<'a> {
 
 /// Yes as 1, no as 0.
 fn one_if(flag: bool) -> &'static str
-    ensures { result.now ≡ decimal (if flag then 1 else 0) }
+    ensures { result.now ≡ (if flag then codes "1" else codes "0") }
 {
     if flag { "1" } else { "0" }
 }
