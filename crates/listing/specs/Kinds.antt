@@ -11,7 +11,7 @@ abbrev pub number : ℕ → List ℕ
 number n = codes " " ++ decimal n
 
 abbrev pub flag : Bool → List ℕ
-flag set = codes " " ++ (if set then codes "1" else codes "0")
+flag set = if set then codes " 1" else codes " 0"
 
 -- the name of a literal's kind and its fields, in the order of their declaration
 abbrev pub literal_bytes : LiteralKind → List ℕ

@@ -1,7 +1,8 @@
 //! The kinds of tokens as a line shows them.
 
-ghost use Rattle.listing.specs.Kinds.{kind_bytes, literal_bytes};
-ghost use Rattle.std.specs.Prelude.{◌≡◌, codes, if◌then◌else◌, Some};
+ghost use Rattle.listing.specs.Kinds.{flag, kind_bytes, literal_bytes};
+ghost use Rattle.std.specs.Fmt.{WritesOnOk};
+ghost use Rattle.std.specs.Prelude.{◌≡◌, ◌++◌, Some};
 
 use lexer::token::{LiteralKind, TokenKind};
 use std::fmt;
@@ -19,11 +20,19 @@ struct ShownLiteral<'a> {
     kind: &'a LiteralKind,
 }
 
-/// Yes as 1, no as 0.
-fn one_if(flag: bool) -> &'static str
-    ensures { result.now ≡ (if flag then codes "1" else codes "0") }
+/// A flag after a blank, yes as 1 and no as 0.
+fn one_if(set: bool) -> &'static str
+    ensures { result.now ≡ flag set }
 {
-    if flag { "1" } else { "0" }
+    if set { " 1" } else { " 0" }
+}
+
+/// Writes a name and a flag piece by piece: a `write!` within the line's own takes longer.
+fn write_flagged<W: fmt::Write>(f: &mut fmt::Formatter<W>, name: &str, set: bool) -> fmt::Result
+    ensures { WritesOnOk W.write_str_gives f.old result (name.now ++ flag set) f.new }
+{
+    f.write_str(name)?;
+    f.write_str(one_if(set))
 }
 
 impl<'a> fmt::Display for ShownLiteral<'a> {
@@ -37,7 +46,7 @@ impl<'a> fmt::Display for ShownLiteral<'a> {
                 trailing_junk_start,
             } => write!(
                 f,
-                "Int {} {} {trailing_junk_start}",
+                "Int {}{} {trailing_junk_start}",
                 base.number(),
                 one_if(empty_int)
             ),
@@ -49,25 +58,21 @@ impl<'a> fmt::Display for ShownLiteral<'a> {
                 empty_exponent_start: None,
                 trailing_junk_start,
             } => write!(f, "Numeric - {trailing_junk_start}"),
-            LiteralKind::Str { terminated } => write!(f, "Str {}", one_if(terminated)),
-            LiteralKind::NationalStr { terminated } => write!(
+            LiteralKind::Str { terminated } => write_flagged(f, "Str", terminated),
+            LiteralKind::NationalStr { terminated } => write_flagged(f, "NationalStr", terminated),
+            LiteralKind::ByteStr { terminated } => write_flagged(f, "ByteStr", terminated),
+            LiteralKind::BitStr { terminated } => write_flagged(f, "BitStr", terminated),
+            LiteralKind::DollarQuotedString { terminated } => write_flagged(
                 f,
-                "NationalStr {}",
-                one_if(terminated)
+                "DollarQuotedString",
+                terminated,
             ),
-            LiteralKind::ByteStr { terminated } => write!(f, "ByteStr {}", one_if(terminated)),
-            LiteralKind::BitStr { terminated } => write!(f, "BitStr {}", one_if(terminated)),
-            LiteralKind::DollarQuotedString { terminated } => write!(
+            LiteralKind::UnicodeEscStr { terminated } => write_flagged(
                 f,
-                "DollarQuotedString {}",
-                one_if(terminated)
+                "UnicodeEscStr",
+                terminated,
             ),
-            LiteralKind::UnicodeEscStr { terminated } => write!(
-                f,
-                "UnicodeEscStr {}",
-                one_if(terminated)
-            ),
-            LiteralKind::EscStr { terminated } => write!(f, "EscStr {}", one_if(terminated)),
+            LiteralKind::EscStr { terminated } => write_flagged(f, "EscStr", terminated),
         }
     }
 }
@@ -81,20 +86,12 @@ impl<'a> fmt::Display for Shown<'a> {
             TokenKind::Literal { ref kind } => ShownLiteral { kind }.fmt(f),
             TokenKind::Whitespace => f.write_str("Whitespace"),
             TokenKind::Ident => f.write_str("Ident"),
-            TokenKind::PsqlCommand { ends_query } => write!(
-                f,
-                "PsqlCommand {}",
-                one_if(ends_query)
-            ),
+            TokenKind::PsqlCommand { ends_query } => write_flagged(f, "PsqlCommand", ends_query),
             TokenKind::Semi => f.write_str("Semi"),
             TokenKind::Eof => f.write_str("Eof"),
             TokenKind::Slash => f.write_str("Slash"),
             TokenKind::LineComment => f.write_str("LineComment"),
-            TokenKind::BlockComment { terminated } => write!(
-                f,
-                "BlockComment {}",
-                one_if(terminated)
-            ),
+            TokenKind::BlockComment { terminated } => write_flagged(f, "BlockComment", terminated),
             TokenKind::Minus => f.write_str("Minus"),
             TokenKind::Colon => f.write_str("Colon"),
             TokenKind::Dot => f.write_str("Dot"),
@@ -128,10 +125,7 @@ impl<'a> fmt::Display for Shown<'a> {
                 terminated,
                 uescape,
             } => {
-                // Piece by piece: of all kinds it has two flags, and a `write!` within the line's own takes longer.
-                f.write_str("QuotedIdent ")?;
-                f.write_str(one_if(terminated))?;
-                f.write_str(" ")?;
+                write_flagged(f, "QuotedIdent", terminated)?;
                 f.write_str(one_if(uescape))
             }
         }
