@@ -8,7 +8,7 @@ use lexer::token::{LiteralKind, TokenKind};
 use std::fmt;
 
 /// A token's kind: its name, and its fields in the order of their declaration, yes as 1, no as 0 and a number that is
-/// not there as `-`. A literal goes by its own kind. It is lent: to copy it takes as long as to write it.
+/// not there as `-`. A literal goes by its own kind. It is lent: a copy for each line costs time.
 #[derive(Clone, Copy)]
 pub(crate) struct Shown<'a> {
     pub(crate) kind: &'a TokenKind,
